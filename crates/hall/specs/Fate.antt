@@ -1,0 +1,38 @@
+-- Document 01, "Cycle": "Clockwise order is 1, 3, 2, 6, 4, 5, then 1. Each pattern from 0 to 7 falls in one group against the kept pattern".
+use Prim.Native.Nat.{ℕ}
+use mathlib.Core.Bool.{Bool, true, false}
+use mathlib.Core.List.{List, [], _∷_, reverse}
+use lib.Dec.{eqb}
+use Rattle.hall.specs.Choose.{pick}
+use Rattle.hall.specs.declared.fate.Fate.{Fate}
+use Rattle.hall.specs.declared.fate.Fate.the-variants.{Dead, First, Same, Forward, Back, Stray}
+use Rattle.hall.specs.declared.fate.Kept.{Kept}
+use Rattle.hall.specs.declared.fate.Kept.the-variants.{Nothing, Pattern}
+
+-- "Clockwise order is 1, 3, 2, 6, 4, 5, then 1"
+abbrev pub clockwise : List ℕ
+clockwise = 1 ∷ 3 ∷ 2 ∷ 6 ∷ 4 ∷ 5 ∷ []
+
+-- the pattern stands in the order
+abbrev pub among : List ℕ → ℕ → Bool
+among [] p = false
+among (x ∷ rest) p = pick (eqb p x) true (among rest p)
+
+-- what stands after the pattern in the order, whose last is followed by `first`
+abbrev pub after : ℕ → List ℕ → ℕ → ℕ
+after first [] p = p
+after first (x ∷ []) p = first
+after first (x ∷ y ∷ rest) p = pick (eqb p x) y (after first (y ∷ rest) p)
+
+abbrev pub next : ℕ → ℕ
+next p = after 1 clockwise p
+
+abbrev pub previous : ℕ → ℕ
+previous p = after 5 (reverse clockwise) p
+
+unfoldable pub beside : ℕ → ℕ → ℕ → Kept → Fate
+beside a p b Nothing = First
+beside a p b (Pattern k) = pick (eqb k p) Same (pick (eqb k a) Forward (pick (eqb k b) Back Stray))
+
+unfoldable pub fate : ℕ → Kept → Fate
+fate p kept = pick (among clockwise p) (beside (previous p) p (next p) kept) Dead

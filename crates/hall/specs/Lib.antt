@@ -1,0 +1,4 @@
+pub mod Choose
+pub mod Fate
+pub mod Angle
+pub mod Sample

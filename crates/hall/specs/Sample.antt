@@ -1,0 +1,88 @@
+-- Document 01, "Cycle": what each group of a sample does to the Hall part of the state.
+use Prim.Native.Nat.{ℕ, _+_, _-_, _%_, _^_}
+use mathlib.Core.Bool.{Bool, true, false}
+use lib.Dec.{eqb}
+use lib.IntN.{ℤ, pos}
+use Rattle.numbers.specs.Count.{up}
+use Rattle.hall.specs.Choose.{pick}
+use Rattle.hall.specs.Fate.{fate}
+use Rattle.hall.specs.Angle.{middleWith, boundaryWith}
+use Rattle.hall.specs.declared.Hall.{Hall}
+use Rattle.hall.specs.declared.Sampled.{Sampled}
+use Rattle.hall.specs.declared.fate.Fate.{Fate}
+use Rattle.hall.specs.declared.fate.Fate.the-variants.{Dead, First, Same, Forward, Back, Stray}
+use Rattle.hall.specs.declared.fate.Kept.{Kept}
+use Rattle.hall.specs.declared.fate.Kept.the-variants.{Nothing, Pattern}
+
+-- "Power-up is IDLE, all zero." "Before any pattern [the angle] is 0, without offset."
+abbrev pub poweredUp : Hall
+poweredUp = record { kept = Nothing; position = 0; angle = pos 0; dead = 0; stray = 0; still = 0 }
+
+-- "position plus or minus 1"; "The position counter runs modulo 2^32."
+abbrev pub plusOne : ℕ → ℕ
+plusOne position = (position + 1) % 2 ^ 32
+
+abbrev pub minusOne : ℕ → ℕ
+minusOne position = (position + (2 ^ 32 - 1)) % 2 ^ 32
+
+-- a newly kept pattern: "both streaks zero"; "The still count is zero after a newly kept pattern"
+abbrev pub keeps : Fate → ℕ → ℕ → ℤ → Sampled
+keeps fate pattern position angle =
+    record {
+      hall = record { kept = Pattern pattern; position = position; angle = angle; dead = 0; stray = 0; still = 0 };
+      fate = fate;
+      flagged = false;
+    }
+
+-- any other sample: the still count "otherwise [..] grows to at most 4096"; "Otherwise the angle stays."
+abbrev pub rests : Hall → Fate → Kept → ℕ → ℕ → Bool → Sampled
+rests hall fate kept dead stray flagged =
+    record {
+      hall =
+          record {
+            kept = kept;
+            position = hall .position;
+            angle = hall .angle;
+            dead = dead;
+            stray = stray;
+            still = up 4096 (hall .still);
+          };
+      fate = fate;
+      flagged = flagged;
+    }
+
+-- the number of the kept pattern
+abbrev pub number : Kept → ℕ
+number Nothing = 0
+number (Pattern p) = p
+
+-- "0 or 7: dead streak up by one, at most 2; stray streak zero. At 2, flag 15 is set and the kept pattern is forgotten."
+unfoldable pub deadSample : Hall → Sampled
+deadSample hall =
+    let dead : ℕ = up 2 (hall .dead) in
+    let at2 : Bool = eqb dead 2 in
+    rests hall Dead (pick at2 Nothing (hall .kept)) dead 0 at2
+
+-- "Another of 1..6: stray streak up, dead streak zero. At 3, flag 15 is set, the pattern is forgotten and the stray streak returns to zero."
+unfoldable pub straySample : Hall → Sampled
+straySample hall =
+    let stray : ℕ = up 3 (hall .stray) in
+    let at3 : Bool = eqb stray 3 in
+    rests hall Stray (pick at3 Nothing (hall .kept)) 0 (pick at3 0 stray) at3
+
+-- the five groups, two of them steps
+abbrev pub after : Hall → ℕ → ℤ → Fate → Sampled
+after hall pattern offset Dead = deadSample hall
+-- "Any of 1..6 with none kept: kept; position unchanged; both streaks zero."
+after hall pattern offset First = keeps First pattern (hall .position) (middleWith offset pattern)
+-- "Same as kept: both streaks zero."
+after hall pattern offset Same = rests hall Same (hall .kept) 0 0 false
+-- "Next or previous: kept; position plus or minus 1; both streaks zero."
+after hall pattern offset Forward =
+    keeps Forward pattern (plusOne (hall .position)) (boundaryWith offset (number (hall .kept)))
+after hall pattern offset Back = keeps Back pattern (minusOne (hall .position)) (boundaryWith offset pattern)
+after hall pattern offset Stray = straySample hall
+
+-- one sample: the next Hall part, the sample's fate, and whether flag 15 is set
+unfoldable pub sampled : Hall → ℕ → ℤ → Sampled
+sampled hall pattern offset = after hall pattern offset (fate pattern (hall .kept))

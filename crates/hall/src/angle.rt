@@ -1,0 +1,100 @@
+// The angle handed on.
+ghost use mathlib.Core.Path.{_≡_};
+ghost use lib.IntN.{_+ℤ_};
+ghost use mir.Syntax.{w32};
+ghost use mir.Val.{SFits};
+ghost use Rattle.hall.specs.Angle.{twelfth, sectorOf, withOffset, middleWith, boundaryWith};
+
+// k times 30 degrees, for k from 0 to 11, where a full turn is 65536.
+const TWELFTHS: [i16; 12] = [
+    0,
+    5461,
+    10922,
+    16384,
+    21845,
+    27306,
+    -32768,
+    -27307,
+    -21846,
+    -16384,
+    -10923,
+    -5462,
+];
+
+fn twelfth(k: usize) -> i16
+    ensures { λ r. ⌜ r ≡ twelfth k ⌝ }
+{
+    TWELFTHS[k % 12]
+}
+
+// A pattern's sector, in twelfths of a turn: its middle, and the boundary from it to the next sector clockwise.
+pub struct Sector {
+    pub middle: usize,
+    pub boundary: usize,
+}
+
+fn sector_of(pattern: u8) -> Sector
+    ensures { λ r. ⌜ r ≡ sectorOf pattern ⌝ }
+{
+    match pattern {
+        1 => Sector {
+            middle: 11,
+            boundary: 0,
+        },
+        3 => Sector {
+            middle: 1,
+            boundary: 2,
+        },
+        2 => Sector {
+            middle: 3,
+            boundary: 4,
+        },
+        6 => Sector {
+            middle: 5,
+            boundary: 6,
+        },
+        4 => Sector {
+            middle: 7,
+            boundary: 8,
+        },
+        5 => Sector {
+            middle: 9,
+            boundary: 10,
+        },
+        _ => Sector {
+            middle: 0,
+            boundary: 0,
+        },
+    }
+}
+
+// The exact sum. A minus sign here is what cost the customer yarn.
+fn plus(a: i32, b: i32) -> i32
+    requires { ⌜ SFits w32 (a +ℤ b) ⌝ }
+    ensures { λ r. ⌜ r ≡ a +ℤ b ⌝ }
+{
+    a + b
+}
+
+// The angle turned by the offset, wrapped at 16 bits.
+fn with_offset(angle: i16, offset: i16) -> i16
+    ensures { λ r. ⌜ r ≡ withOffset angle offset ⌝ }
+{
+    let turned = plus(angle as i32, offset as i32);
+    let bits = (plus(turned, 65536) as u32) % 65536;
+    numbers::signed(bits as u16)
+}
+
+// What a first pattern gives.
+pub(crate) fn middle(pattern: u8, offset: i16) -> i16
+    ensures { λ r. ⌜ r ≡ middleWith offset pattern ⌝ }
+{
+    with_offset(twelfth(sector_of(pattern).middle), offset)
+}
+
+// What a step over the boundary between the pattern and the next one clockwise gives.
+pub(crate) fn boundary(pattern: u8, offset: i16) -> i16
+    ensures { λ r. ⌜ r ≡ boundaryWith offset pattern ⌝ }
+{
+    with_offset(twelfth(sector_of(pattern).boundary), offset)
+}

@@ -1,0 +1,33 @@
+// What the crates above need of 16-bit numbers and the kit's std does not have. Each call takes any value.
+ghost use mathlib.Core.Path.{_≡_};
+ghost use lib.IntN.{natAbs};
+ghost use mir.Syntax.{w16};
+ghost use mir.Val.{toZ};
+ghost use Rattle.numbers.specs.Count.{up};
+
+// A count up by one, and at most `most`.
+pub fn count_up(count: u16, most: u16) -> u16
+    ensures { λ r. ⌜ r ≡ up most count ⌝ }
+{
+    if count < most { count + 1 } else { most }
+}
+
+// 16 bits read as a signed number, in two's complement.
+pub fn signed(bits: u16) -> i16
+    ensures { λ r. ⌜ r ≡ toZ w16 bits ⌝ }
+{
+    if bits < 32768 {
+        return bits as i16;
+    }
+    ((bits as i32) - 65536) as i16
+}
+
+// The absolute value, which for -32768 does not fit an i16.
+pub fn absolute(number: i16) -> u16
+    ensures { λ r. ⌜ r ≡ natAbs number ⌝ }
+{
+    if number < 0 {
+        return (0 - (number as i32)) as u16;
+    }
+    number as u16
+}
