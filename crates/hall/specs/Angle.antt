@@ -35,7 +35,7 @@ under (x ∷ order) (k ∷ row) p = pick (eqb p x) k (under order row p)
 
 -- a pattern's sector: its middle, and the boundary from it to the next sector clockwise
 unfoldable pub sectorOf : ℕ → Sector
-sectorOf p = record { middle = under clockwise middles p; boundary = under clockwise boundaries p }
+sectorOf p = (under clockwise middles p, under clockwise boundaries p)
 
 -- an integer modulo 2^16
 abbrev pub modulo : ℤ → ℕ
@@ -48,8 +48,8 @@ withOffset angle offset = toZ w16 (modulo (angle +ℤ offset))
 
 -- "A first pattern gives its sector's middle, a step the boundary crossed", each with the offset
 abbrev pub middleWith : ℤ → ℕ → ℤ
-middleWith offset pattern = withOffset (twelfth (sectorOf pattern .middle)) offset
+middleWith offset pattern = withOffset (twelfth (sectorOf pattern .0)) offset
 
 -- the boundary from the pattern's sector to the next one clockwise
 abbrev pub boundaryWith : ℤ → ℕ → ℤ
-boundaryWith offset pattern = withOffset (twelfth (sectorOf pattern .boundary)) offset
+boundaryWith offset pattern = withOffset (twelfth (sectorOf pattern .1)) offset

@@ -28,43 +28,19 @@ fn twelfth(k: usize) -> i16
 }
 
 // A pattern's sector, in twelfths of a turn: its middle, and the boundary from it to the next sector clockwise.
-pub struct Sector {
-    pub middle: usize,
-    pub boundary: usize,
-}
+struct Sector(usize, usize);
 
 fn sector_of(pattern: u8) -> Sector
     ensures { λ r. ⌜ r ≡ sectorOf pattern ⌝ }
 {
     match pattern {
-        1 => Sector {
-            middle: 11,
-            boundary: 0,
-        },
-        3 => Sector {
-            middle: 1,
-            boundary: 2,
-        },
-        2 => Sector {
-            middle: 3,
-            boundary: 4,
-        },
-        6 => Sector {
-            middle: 5,
-            boundary: 6,
-        },
-        4 => Sector {
-            middle: 7,
-            boundary: 8,
-        },
-        5 => Sector {
-            middle: 9,
-            boundary: 10,
-        },
-        _ => Sector {
-            middle: 0,
-            boundary: 0,
-        },
+        1 => Sector(11, 0),
+        3 => Sector(1, 2),
+        2 => Sector(3, 4),
+        6 => Sector(5, 6),
+        4 => Sector(7, 8),
+        5 => Sector(9, 10),
+        _ => Sector(0, 0),
     }
 }
 
@@ -89,12 +65,12 @@ fn with_offset(angle: i16, offset: i16) -> i16
 pub(crate) fn middle(pattern: u8, offset: i16) -> i16
     ensures { λ r. ⌜ r ≡ middleWith offset pattern ⌝ }
 {
-    with_offset(twelfth(sector_of(pattern).middle), offset)
+    with_offset(twelfth(sector_of(pattern).0), offset)
 }
 
 // What a step over the boundary between the pattern and the next one clockwise gives.
 pub(crate) fn boundary(pattern: u8, offset: i16) -> i16
     ensures { λ r. ⌜ r ≡ boundaryWith offset pattern ⌝ }
 {
-    with_offset(twelfth(sector_of(pattern).boundary), offset)
+    with_offset(twelfth(sector_of(pattern).1), offset)
 }
