@@ -10,7 +10,7 @@ use mir.Syntax.{w16}
 use mir.Val.{SFits, ofZ}
 use mir.Facts.{toZ-ofZ, sfits-toZ}
 use borrow.Author.Tests.{eqb-true}
-use Rattle.hall.specs.Choose.{pick}
+use Rattle.numbers.specs.Choose.{pick}
 use Rattle.hall.specs.Fate.{clockwise, among, next, fate, beside}
 use Rattle.hall.specs.Angle.{twelfth, withOffset, boundaryWith, modulo}
 use Rattle.hall.specs.Sample.{sampled, after, number, plusOne, minusOne}

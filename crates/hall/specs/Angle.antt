@@ -5,7 +5,7 @@ use lib.Dec.{eqb}
 use lib.IntN.{ℤ, pos, negsuc, negℤ, _+ℤ_}
 use mir.Syntax.{w16}
 use mir.Val.{toZ}
-use Rattle.hall.specs.Choose.{pick}
+use Rattle.numbers.specs.Choose.{pick}
 use Rattle.hall.specs.Fate.{clockwise}
 use Rattle.hall.specs.declared.angle.Sector.{Sector}
 

@@ -3,7 +3,7 @@ use Prim.Native.Nat.{ℕ}
 use mathlib.Core.Bool.{Bool, true, false}
 use mathlib.Core.List.{List, [], _∷_, reverse}
 use lib.Dec.{eqb}
-use Rattle.hall.specs.Choose.{pick}
+use Rattle.numbers.specs.Choose.{pick}
 use Rattle.hall.specs.declared.fate.Fate.{Fate}
 use Rattle.hall.specs.declared.fate.Fate.the-variants.{Dead, First, Same, Forward, Back, Stray}
 use Rattle.hall.specs.declared.fate.Kept.{Kept}

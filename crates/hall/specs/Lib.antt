@@ -1,4 +1,3 @@
-pub mod Choose
 pub mod Fate
 pub mod Angle
 pub mod Sample

@@ -4,7 +4,7 @@ use mathlib.Core.Bool.{Bool, true, false}
 use lib.Dec.{eqb}
 use lib.IntN.{ℤ, pos}
 use Rattle.numbers.specs.Count.{up}
-use Rattle.hall.specs.Choose.{pick}
+use Rattle.numbers.specs.Choose.{pick}
 use Rattle.hall.specs.Fate.{fate}
 use Rattle.hall.specs.Angle.{middleWith, boundaryWith}
 use Rattle.hall.specs.declared.Hall.{Hall}

@@ -1,5 +1,5 @@
 // What one Hall sample says: its fate, and the next Hall part of the drive state.
-pub mod angle;
+mod angle;
 pub mod fate;
 
 use angle::boundary;
@@ -17,9 +17,9 @@ pub struct Hall {
     pub kept: Kept,
     pub position: u32,
     pub angle: i16,
-    pub dead: u16,
-    pub stray: u16,
-    pub still: u16,
+    pub dead: u32,
+    pub stray: u32,
+    pub still: u32,
 }
 
 // What a sample gives: the next Hall part, what became of the sample, and whether it sets flag 15.
@@ -127,7 +127,7 @@ impl Hall {
         self.rests(Fate::Stray, kept, 0, stray, false)
     }
 
-    fn rests(self, fate: Fate, kept: Kept, dead: u16, stray: u16, flagged: bool) -> Sampled
+    fn rests(self, fate: Fate, kept: Kept, dead: u32, stray: u32, flagged: bool) -> Sampled
         ensures { λ r. ⌜ r ≡ rests self fate kept dead stray flagged ⌝ }
     {
         let still = numbers::count_up(self.still, 4096);

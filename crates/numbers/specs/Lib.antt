@@ -1,1 +1,3 @@
+pub mod Choose
 pub mod Count
+pub mod Limit

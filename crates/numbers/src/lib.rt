@@ -1,12 +1,13 @@
-// What the crates above need of 16-bit numbers and the kit's std does not have. Each call takes any value.
+// What the crates above need of machine numbers and the kit's std does not have. Each call takes any value.
 ghost use mathlib.Core.Path.{_≡_};
 ghost use lib.IntN.{natAbs};
 ghost use mir.Syntax.{w16};
 ghost use mir.Val.{toZ};
 ghost use Rattle.numbers.specs.Count.{up};
+ghost use Rattle.numbers.specs.Limit.{limit};
 
 // A count up by one, and at most `most`.
-pub fn count_up(count: u16, most: u16) -> u16
+pub fn count_up(count: u32, most: u32) -> u32
     ensures { λ r. ⌜ r ≡ up most count ⌝ }
 {
     if count < most { count + 1 } else { most }
@@ -30,4 +31,17 @@ pub fn absolute(number: i16) -> u16
         return (0 - (number as i32)) as u16;
     }
     number as u16
+}
+
+// The nearest number from -32767 to 32767.
+pub fn limited(number: i32) -> i16
+    ensures { λ r. ⌜ r ≡ limit number ⌝ }
+{
+    if 32767 < number {
+        return 32767;
+    }
+    if number < -32767 {
+        return -32767;
+    }
+    number as i16
 }
