@@ -1,3 +1,4 @@
 -- What the proofs of the crates above cite.
 pub mod Table
 pub mod Sums
+pub mod Order

@@ -1,0 +1,25 @@
+-- TODO
+use borrow.Author.Needs.{needs}
+use Rattle.drive.proofs.answer.gate.Statement.{statement}
+use Rattle.drive.proofs.answer.gate.Tie as tie
+
+returns : tie.Need-returns
+returns c =
+    rw (
+      c .pick-u83 .ensures,
+      c .before .pick-u82 .ensures,
+      c .before .before .pick-u8 .ensures,
+      c .before .before .before .gate-of .ensures,
+      c .before .before .before .before .any .ensures,
+    )
+
+pub gate-spec : {M : Type 1} → statement M
+gate-spec =
+    tie.close
+    (tie.spec
+    (λ c κs. search needs)
+    (λ c κs. search needs)
+    (λ c κs. search needs)
+    (λ c κs. search needs)
+    (λ c κs. search needs)
+    returns)

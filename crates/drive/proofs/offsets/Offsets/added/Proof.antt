@@ -1,0 +1,19 @@
+-- TODO
+use borrow.Author.Needs.{needs}
+use Rattle.drive.proofs.offsets.Offsets.added.Statement.{statement}
+use Rattle.drive.proofs.offsets.Offsets.added.Tie as tie
+
+returns : tie.Need-returns
+returns c =
+    rw (
+      c .wrapping-add-u322 .ensures,
+      c .before .wrapping-add-u32 .ensures,
+    )
+
+pub added-spec : {M : Type 1} → statement M
+added-spec =
+    tie.close
+    (tie.spec
+    (λ c κs. search needs)
+    (λ c κs. search needs)
+    returns)

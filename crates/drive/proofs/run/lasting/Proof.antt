@@ -1,0 +1,19 @@
+-- TODO
+use borrow.Author.Needs.{needs}
+use Rattle.drive.proofs.run.lasting.Statement.{statement}
+use Rattle.drive.proofs.run.lasting.Tie as tie
+
+returns : tie.Need-returns
+returns c =
+    rw (
+      c .pick-u32 .ensures,
+      c .before .count-up .ensures,
+    )
+
+pub lasting-spec : {M : Type 1} → statement M
+lasting-spec =
+    tie.close
+    (tie.spec
+    (λ c κs. search needs)
+    (λ c κs. search needs)
+    returns)

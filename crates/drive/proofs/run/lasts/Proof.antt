@@ -1,0 +1,16 @@
+-- TODO
+use borrow.Author.Needs.{needs}
+use Rattle.drive.proofs.run.lasts.Statement.{statement}
+use Rattle.drive.proofs.run.lasts.Tie as tie
+
+returns : tie.Need-returns
+returns c =
+    rw
+    (c .count-up .ensures)
+
+pub lasts-spec : {M : Type 1} → statement M
+lasts-spec =
+    tie.close
+    (tie.spec
+    (λ c κs. search needs)
+    returns)

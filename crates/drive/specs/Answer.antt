@@ -1,0 +1,51 @@
+-- Document 01, "What the supervisor covers" and "Gates": what an answer shows of the state.
+use Prim.Native.Nat.{ℕ}
+use mathlib.Core.Bool.{Bool, _||_}
+use lib.IntN.{ℤ, pos}
+use lib.Signed.{quotZ}
+use Rattle.numbers.specs.Choose.{pick}
+use Rattle.numbers.specs.Limit.{limit}
+use Rattle.drive.specs.State.{numberOf, is, turning}
+use Rattle.drive.specs.Settings.{FaultEnable}
+use Rattle.drive.specs.Flags.{live, any, word}
+use Rattle.drive.specs.declared.Drive.{Drive}
+use Rattle.drive.specs.declared.state.State.{State}
+use Rattle.drive.specs.declared.flags.Flags.{Flags}
+use Rattle.drive.specs.declared.answer.Answer.{Answer}
+use Rattle.drive.specs.declared.answer.Reply.{Reply}
+
+-- "3 gives charge (1); 4, 6, 7, 8, 9 give drive (2); others off"
+abbrev pub gateOf : State → ℕ
+gateOf state = pick (is 3 state) 1 (pick (turning state) 2 0)
+
+-- "live bit 0, off (0); else live bit 1, all low sides on (3); else any live flag, off; else .."
+abbrev pub gate : State → Flags → ℕ
+gate state alive = pick (alive .kill) 0 (pick (alive .critical) 3 (pick (any alive) 0 (gateOf state)))
+
+-- "The live word"
+abbrev pub alive : Drive → Flags
+alive d = live (FaultEnable (d .settings)) (d .flags)
+
+-- "Reported divided by 2048, rounded toward zero"; "reference and angle are signed 16-bit"
+abbrev pub reported : ℤ → ℤ
+reported reference = limit (quotZ reference (pos 2048))
+
+-- "number, place, state, gate, live word, speed reference, position, angle, two offsets, retries used"
+unfoldable pub answer : ℕ → ℕ → Drive → Answer
+answer number place d =
+    record {
+      number = number;
+      place = place;
+      state = numberOf (d .state);
+      gate = gate (d .state) (alive d);
+      live = word (alive d);
+      reference = reported (d .run .reference);
+      position = d .hall .position;
+      angle = d .hall .angle;
+      offsets = d .offsets .value;
+      retries = d .retries;
+    }
+
+-- "Each hands the next drive state back beside its answer"
+abbrev pub reply : ℕ → ℕ → Drive → Reply
+reply number place d = record { drive = d; answer = answer number place d }

@@ -1,0 +1,39 @@
+-- Document 01, "Speed reference", kept times 2048.
+use Prim.Native.Nat.{ℕ, _+_, _-_, _*_, _/_, min}
+use mathlib.Core.Bool.{Bool}
+use mathlib.Core.List.{List}
+use lib.Dec.{ltb}
+use lib.IntN.{ℤ, pos, negℤ, natAbs, _+ℤ_, _-ℤ_, _*ℤ_}
+use lib.Signed.{ltZ}
+use Rattle.numbers.specs.Choose.{pick}
+use Rattle.drive.specs.Settings.{MinSpd, SpdRampRate, CmdStart, CmdGain}
+use Rattle.drive.specs.Command.{mode1}
+use Rattle.drive.specs.declared.Tick.{Tick}
+
+-- "kept times 2048"
+abbrev pub times2048 : ℤ → ℤ
+times2048 z = z *ℤ pos 2048
+
+-- "Mode 0 target: where its absolute value is below MinSpd, MinSpd with its sign, 0 being positive."
+unfoldable pub target0 : ℕ → ℤ → ℤ
+target0 minSpd target =
+    pick (ltb (natAbs target) minSpd) (pick (ltZ target (pos 0)) (negℤ (pos minSpd)) (pos minSpd)) target
+
+-- "Mode 1: MinSpd plus floor((control - CmdStart) x CmdGain / 4096), at most 16383; MinSpd where control is below CmdStart."
+abbrev pub target1 : ℕ → ℕ → ℕ → ℕ → ℕ
+target1 minSpd start gain control =
+    pick (ltb control start) minSpd (min (minSpd + (control - start) * gain / 4096) 16383)
+
+unfoldable pub targetOf : List ℕ → Tick → ℤ
+targetOf s t =
+    pick (mode1 s) (pos (target1 (MinSpd s) (CmdStart s) (CmdGain s) (t .control))) (target0 (MinSpd s) (t .target))
+
+-- "moves it toward the target by at most SpdRampRate without passing it"
+unfoldable pub toward : ℕ → ℤ → ℤ → ℤ
+toward rate target reference =
+    pick (ltZ (reference +ℤ pos rate) target) (reference +ℤ pos rate)
+    (pick (ltZ target (reference -ℤ pos rate)) (reference -ℤ pos rate) target)
+
+-- "Each tick staying there moves it toward the target"
+abbrev pub ramped : List ℕ → Tick → ℤ → ℤ
+ramped s t reference = toward (SpdRampRate s) (times2048 (targetOf s t)) reference

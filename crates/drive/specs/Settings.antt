@@ -1,0 +1,80 @@
+-- Document 01, "Settings, in order".
+use Prim.Native.Nat.{ℕ, _-_}
+use mathlib.Core.List.{List}
+use lib.ListN.{getD}
+
+-- the settings are counted from 1
+abbrev pub setting : ℕ → List ℕ → ℕ
+setting n settings = getD settings (n - 1) 0
+
+abbrev pub ControlMode : List ℕ → ℕ
+ControlMode = setting 1
+
+abbrev pub FaultEnable : List ℕ → ℕ
+FaultEnable = setting 2
+
+abbrev pub VdcOvLevel : List ℕ → ℕ
+VdcOvLevel = setting 3
+
+abbrev pub VdcLvLevel : List ℕ → ℕ
+VdcLvLevel = setting 4
+
+abbrev pub CriticalOvLevel : List ℕ → ℕ
+CriticalOvLevel = setting 5
+
+abbrev pub Tshutdown : List ℕ → ℕ
+Tshutdown = setting 6
+
+abbrev pub RotorLockTime : List ℕ → ℕ
+RotorLockTime = setting 7
+
+abbrev pub FluxFaultTime : List ℕ → ℕ
+FluxFaultTime = setting 8
+
+abbrev pub HallTimeoutPeriod : List ℕ → ℕ
+HallTimeoutPeriod = setting 9
+
+abbrev pub HallAngleOffset : List ℕ → ℕ
+HallAngleOffset = setting 10
+
+abbrev pub MinSpd : List ℕ → ℕ
+MinSpd = setting 11
+
+abbrev pub SpdRampRate : List ℕ → ℕ
+SpdRampRate = setting 12
+
+abbrev pub MotorLim : List ℕ → ℕ
+MotorLim = setting 13
+
+abbrev pub OffsetPsc : List ℕ → ℕ
+OffsetPsc = setting 14
+
+abbrev pub BtsChargeTime : List ℕ → ℕ
+BtsChargeTime = setting 15
+
+abbrev pub TCatchSpin : List ℕ → ℕ
+TCatchSpin = setting 16
+
+abbrev pub DirectStartThr : List ℕ → ℕ
+DirectStartThr = setting 17
+
+abbrev pub «IS_Pulses» : List ℕ → ℕ
+«IS_Pulses» = setting 18
+
+abbrev pub ParkTime : List ℕ → ℕ
+ParkTime = setting 19
+
+abbrev pub OpenLoopRamp : List ℕ → ℕ
+OpenLoopRamp = setting 20
+
+abbrev pub CmdStart : List ℕ → ℕ
+CmdStart = setting 21
+
+abbrev pub CmdStop : List ℕ → ℕ
+CmdStop = setting 22
+
+abbrev pub CmdGain : List ℕ → ℕ
+CmdGain = setting 23
+
+abbrev pub RetryLimit : List ℕ → ℕ
+RetryLimit = setting 24

@@ -1,0 +1,103 @@
+// The flags of the fault word. Only these nine of its sixteen bits are ever set.
+
+ghost use mathlib.Core.Path.{_≡_};
+ghost use Prim.Native.Nat.{_≤_};
+ghost use Rattle.numbers.specs.Choose.{pick};
+ghost use Rattle.drive.specs.Flags.{none, either, live, any, word};
+
+pub struct Flags {
+    pub kill: bool, // 0: gate kill
+    pub critical: bool, // 1: VdcRaw above CriticalOvLevel
+    pub over: bool, // 2: VdcFilt above VdcOvLevel
+    pub under: bool, // 3: VdcFilt below VdcLvLevel
+    pub flux: bool, // 4: eight bad flux slots in a row
+    pub heat: bool, // 6: temperature above Tshutdown
+    pub lock: bool, // 7: rotor lock
+    pub timeout: bool, // 14: Hall time-out
+    pub hall: bool, // 15: Hall pattern
+}
+
+impl Flags {
+    pub fn none() -> Self
+        ensures { λ r. ⌜ r ≡ none ⌝ }
+    {
+        Flags {
+            kill: false,
+            critical: false,
+            over: false,
+            under: false,
+            flux: false,
+            heat: false,
+            lock: false,
+            timeout: false,
+            hall: false,
+        }
+    }
+
+    // The flags of both.
+    pub fn either(self, other: Flags) -> Flags
+        ensures { λ r. ⌜ r ≡ either self other ⌝ }
+    {
+        Flags {
+            kill: self.kill | other.kill,
+            critical: self.critical | other.critical,
+            over: self.over | other.over,
+            under: self.under | other.under,
+            flux: self.flux | other.flux,
+            heat: self.heat | other.heat,
+            lock: self.lock | other.lock,
+            timeout: self.timeout | other.timeout,
+            hall: self.hall | other.hall,
+        }
+    }
+
+    // Those that the mask lets live; 0 and 1 always do.
+    pub fn live(self, mask: u16) -> Flags
+        ensures { λ r. ⌜ r ≡ live mask self ⌝ }
+    {
+        Flags {
+            kill: self.kill,
+            critical: self.critical,
+            over: self.over & (mask / 4 % 2 == 1),
+            under: self.under & (mask / 8 % 2 == 1),
+            flux: self.flux & (mask / 16 % 2 == 1),
+            heat: self.heat & (mask / 64 % 2 == 1),
+            lock: self.lock & (mask / 128 % 2 == 1),
+            timeout: self.timeout & (mask / 16384 % 2 == 1),
+            hall: self.hall & (mask / 32768 % 2 == 1),
+        }
+    }
+
+    pub fn any(self) -> bool
+        ensures { λ r. ⌜ r ≡ any self ⌝ }
+    {
+        self.kill
+            | self.critical
+            | self.over
+            | self.under
+            | self.flux
+            | self.heat
+            | self.lock
+            | self.timeout
+            | self.hall
+    }
+
+    // The word of 16 bits.
+    pub fn word(self) -> u16
+        ensures { λ r. ⌜ r ≡ word self ⌝ }
+    {
+        let low = bit(self.kill, 1)
+            + bit(self.critical, 2)
+            + bit(self.over, 4)
+            + bit(self.under, 8);
+        let middle = bit(self.flux, 16) + bit(self.heat, 64) + bit(self.lock, 128);
+        low + middle + bit(self.timeout, 16384) + bit(self.hall, 32768)
+    }
+}
+
+fn bit(set: bool, weight: u16) -> u16
+    ensures value { λ r. ⌜ r ≡ pick set weight 0 ⌝ }
+    ensures bound { λ r. ⌜ r ≤ weight ⌝ }
+{
+    if set { weight } else { 0 }
+}

@@ -1,0 +1,51 @@
+// The supervisor of one drive: its state, and the calls that change it.
+pub mod answer;
+pub mod choose;
+pub mod command;
+pub mod flags;
+pub mod offsets;
+pub mod reference;
+pub mod run;
+pub mod state;
+
+use flags::Flags;
+use hall::Hall;
+use offsets::Offsets;
+use run::Run;
+use state::State;
+
+// The state of the drive. Its 24 settings stand as loaded; no cycle and no tick changes them.
+pub struct Drive {
+    pub state: State,
+    pub settings: [u16; 24],
+    pub hall: Hall,
+    pub flags: Flags,
+    pub cycles: u32,
+    pub ticks: u32,
+    pub offsets: Offsets,
+    pub run: Run,
+    pub armed: bool,
+    pub retries: u32,
+}
+
+// What a cycle is told.
+pub struct Cycle {
+    pub pattern: u8,
+    pub first: u16,
+    pub second: u16,
+}
+
+// What a tick is told.
+pub struct Tick {
+    pub kill: u8,
+    pub clear: u8,
+    pub command: u8,
+    pub control: u16,
+    pub raw: u16,
+    pub filtered: u16,
+    pub temperature: u16,
+    pub flux: u16,
+    pub torque: i16,
+    pub speed: i16,
+    pub target: i16,
+}

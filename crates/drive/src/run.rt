@@ -1,0 +1,135 @@
+// What runs while the motor does: the counts of bits 4, 7 and 14, and the speed reference.
+use crate::Tick;
+use crate::choose::pick_u32;
+use numbers::absolute;
+use numbers::count_up;
+ghost use mathlib.Core.Path.{_≡_};
+ghost use Prim.Native.Nat.{_*_};
+ghost use Rattle.drive.specs.Run.{still, slotLength, badFlux, nextSlots, fluxStands, lasting, lasts, locked, watched};
+
+// The flux slots: ticks of the present slot, whether one of them was bad, and bad slots in a row.
+pub struct Slots {
+    pub ticks: u32,
+    pub bad: bool,
+    pub row: u32,
+}
+
+pub struct Run {
+    pub slots: Slots,
+    pub lock: u32,
+    pub still: u32,
+    pub reference: i32,
+}
+
+// The three counts after a tick, and which of their causes stand.
+pub struct Watched {
+    pub slots: Slots,
+    pub lock: u32,
+    pub still: u32,
+    pub flux: bool,
+    pub locked: bool,
+    pub timeout: bool,
+}
+
+impl Run {
+    pub(crate) fn still() -> Self
+        ensures { λ r. ⌜ r ≡ still ⌝ }
+    {
+        let slots = Slots {
+            ticks: 0,
+            bad: false,
+            row: 0,
+        };
+        Run {
+            slots,
+            lock: 0,
+            still: 0,
+            reference: 0,
+        }
+    }
+}
+
+fn slot_length(time: u16) -> u32
+    ensures { λ r. ⌜ r ≡ slotLength time ⌝ }
+{
+    5 * (time as u32) / 4
+}
+
+fn ten_times(time: u16) -> u32
+    ensures { λ r. ⌜ r ≡ 10 * time ⌝ }
+{
+    10 * (time as u32)
+}
+
+fn bad_flux(flux: u16) -> bool
+    ensures { λ r. ⌜ r ≡ badFlux flux ⌝ }
+{
+    (flux < 512) | (8192 < flux)
+}
+
+impl Slots {
+    fn next(self, length: u32, bad_tick: bool) -> Slots
+        ensures { λ r. ⌜ r ≡ nextSlots length «bad_tick» self ⌝ }
+    {
+        let ticks = count_up(self.ticks, length);
+        let ends = ticks == length;
+        let bad = self.bad | bad_tick;
+        let row = pick_u32(bad, count_up(self.row, 8), 0);
+        Slots {
+            ticks: pick_u32(ends, 0, ticks),
+            bad: bad & !ends,
+            row: pick_u32(ends, row, self.row),
+        }
+    }
+
+    fn flux_stands(self, length: u32, bad_tick: bool) -> bool
+        ensures { λ r. ⌜ r ≡ fluxStands length «bad_tick» self ⌝ }
+    {
+        let ends = count_up(self.ticks, length) == length;
+        ends & (self.bad | bad_tick) & (count_up(self.row, 8) == 8)
+    }
+}
+
+fn lasting(limit: u32, holds: bool, count: u32) -> u32
+    ensures { λ r. ⌜ r ≡ lasting limit holds count ⌝ }
+{
+    pick_u32(holds, count_up(count, limit), 0)
+}
+
+fn lasts(limit: u32, holds: bool, count: u32) -> bool
+    ensures { λ r. ⌜ r ≡ lasts limit holds count ⌝ }
+{
+    holds & (count_up(count, limit) == limit)
+}
+
+fn locked(settings: [u16; 24], tick: Tick) -> bool
+    ensures { λ r. ⌜ r ≡ locked settings tick ⌝ }
+{
+    let torque = absolute(tick.torque);
+    let speed = absolute(tick.speed);
+    (settings[12] <= torque) & (settings[10] <= speed) & (speed <= 4095)
+}
+
+impl Run {
+    // One tick taken in MOTORRUN.
+    pub(crate) fn watched(self, settings: [u16; 24], tick: Tick, still_count: u32) -> Watched
+        ensures { λ r. ⌜ r ≡ watched settings tick «still_count» self ⌝ }
+    {
+        let length = slot_length(settings[7]);
+        let bad_tick = bad_flux(tick.flux);
+        let lock_limit = ten_times(settings[6]);
+        let is_locked = locked(settings, tick);
+        let still_limit = ten_times(settings[8]);
+        let is_still = still_count == 4096;
+        let old = self.slots;
+        let slots = old.next(length, bad_tick);
+        Watched {
+            slots,
+            lock: lasting(lock_limit, is_locked, self.lock),
+            still: lasting(still_limit, is_still, self.still),
+            flux: old.flux_stands(length, bad_tick),
+            locked: lasts(lock_limit, is_locked, self.lock),
+            timeout: lasts(still_limit, is_still, self.still),
+        }
+    }
+}
