@@ -6,3 +6,6 @@ pub mod Offsets
 pub mod Run
 pub mod Reference
 pub mod Answer
+pub mod Causes
+pub mod Moves
+pub mod Refusals

@@ -4,6 +4,7 @@ use crate::choose::pick_u8;
 use crate::flags::Flags;
 use crate::offsets::Pair;
 use crate::state::State;
+use crate::state::is_turning;
 use crate::state::number as number_of;
 ghost use mathlib.Core.Path.{_≡_};
 ghost use Rattle.drive.specs.Answer.{gateOf, gate, reported, answer, reply};
@@ -29,9 +30,7 @@ pub struct Reply {
 fn gate_of(state: State) -> u8
     ensures { λ r. ⌜ r ≡ gateOf state ⌝ }
 {
-    let n = number_of(state);
-    let drives = (n == 3) | (n == 4) | (n == 6) | (n == 7) | (n == 8) | (n == 9);
-    pick_u8(n == 3, 1, pick_u8(drives, 2, 0))
+    pick_u8(number_of(state) == 3, 1, pick_u8(is_turning(state), 2, 0))
 }
 
 fn gate(state: State, alive: Flags) -> u8

@@ -1,18 +1,24 @@
 // The supervisor of one drive: its state, and the calls that change it.
 pub mod answer;
+pub mod causes;
 pub mod choose;
 pub mod command;
 pub mod flags;
+pub mod moves;
 pub mod offsets;
 pub mod reference;
+pub mod refusals;
 pub mod run;
 pub mod state;
 
 use flags::Flags;
 use hall::Hall;
+use numbers::absolute;
 use offsets::Offsets;
 use run::Run;
 use state::State;
+ghost use mathlib.Core.Path.{_≡_};
+ghost use lib.IntN.{natAbs};
 
 // The state of the drive. Its 24 settings stand as loaded; no cycle and no tick changes them.
 pub struct Drive {
@@ -48,4 +54,24 @@ pub struct Tick {
     pub torque: i16,
     pub speed: i16,
     pub target: i16,
+}
+
+impl Tick {
+    fn absolute_speed(self) -> u16
+        ensures { λ r. ⌜ r ≡ natAbs (self .speed) ⌝ }
+    {
+        absolute(self.speed)
+    }
+
+    fn absolute_torque(self) -> u16
+        ensures { λ r. ⌜ r ≡ natAbs (self .torque) ⌝ }
+    {
+        absolute(self.torque)
+    }
+
+    fn absolute_target(self) -> u16
+        ensures { λ r. ⌜ r ≡ natAbs (self .target) ⌝ }
+    {
+        absolute(self.target)
+    }
 }

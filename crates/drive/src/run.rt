@@ -1,7 +1,6 @@
 // What runs while the motor does: the counts of bits 4, 7 and 14, and the speed reference.
 use crate::Tick;
 use crate::choose::pick_u32;
-use numbers::absolute;
 use numbers::count_up;
 ghost use mathlib.Core.Path.{_≡_};
 ghost use Prim.Native.Nat.{_*_};
@@ -105,8 +104,8 @@ fn lasts(limit: u32, holds: bool, count: u32) -> bool
 fn locked(settings: [u16; 24], tick: Tick) -> bool
     ensures { λ r. ⌜ r ≡ locked settings tick ⌝ }
 {
-    let torque = absolute(tick.torque);
-    let speed = absolute(tick.speed);
+    let torque = tick.absolute_torque();
+    let speed = tick.absolute_speed();
     (settings[12] <= torque) & (settings[10] <= speed) & (speed <= 4095)
 }
 

@@ -1,6 +1,6 @@
 // The states of the drive.
 ghost use mathlib.Core.Path.{_≡_};
-ghost use Rattle.drive.specs.State.{numberOf};
+ghost use Rattle.drive.specs.State.{numberOf, turning};
 
 pub enum State {
     Idle,
@@ -31,4 +31,12 @@ pub fn number(state: State) -> u8
         State::OpenLoop => 8,
         State::AngleSensing => 9,
     }
+}
+
+// One of the six starting and running states.
+pub(crate) fn is_turning(state: State) -> bool
+    ensures { λ r. ⌜ r ≡ turning state ⌝ }
+{
+    let n = number(state);
+    (n == 3) | (n == 4) | (n == 6) | (n == 7) | (n == 8) | (n == 9)
 }

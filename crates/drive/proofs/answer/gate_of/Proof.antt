@@ -8,13 +8,15 @@ returns c =
     rw (
       c .pick-u82 .ensures,
       c .before .pick-u8 .ensures,
-      c .before .before .number .ensures,
+      c .before .before .is-turning .ensures,
+      c .before .before .before .number .ensures,
     )
 
 pub gate-of-spec : {M : Type 1} → statement M
 gate-of-spec =
     tie.close
     (tie.spec
+    (λ c κs. search needs)
     (λ c κs. search needs)
     (λ c κs. search needs)
     (λ c κs. search needs)

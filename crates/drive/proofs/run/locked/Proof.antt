@@ -1,18 +1,13 @@
 -- TODO
-use mir.Syntax.{w16}
-use mir.Facts.{toZ-ofZ}
 use borrow.Author.Needs.{needs}
 use Rattle.drive.proofs.run.locked.Statement.{statement}
 use Rattle.drive.proofs.run.locked.Tie as tie
 
 returns : tie.Need-returns
 returns c =
-    let tick = c .before .before .before .before .args .tick in
     rw (
-      c .absolute2 .ensures,
-      c .before .before .absolute .ensures,
-      toZ-ofZ {w = w16} {z = tick .torque} (search needs),
-      toZ-ofZ {w = w16} {z = tick .speed} (search needs),
+      c .absolute-speed .ensures,
+      c .before .absolute-torque .ensures,
     )
 
 pub locked-spec : {M : Type 1} → statement M

@@ -1,0 +1,23 @@
+-- TODO
+use borrow.Author.Needs.{needs}
+use Rattle.drive.proofs.Drive.from_angle_sensing.Statement.{statement}
+use Rattle.drive.proofs.Drive.from_angle_sensing.Tie as tie
+
+returns : tie.Need-returns
+returns c =
+    rw (
+      c .pick-move2 .ensures,
+      c .before .pick-move .ensures,
+      c .before .before .before .six-times .ensures,
+    )
+
+pub from-angle-sensing-spec : {M : Type 1} → statement M
+from-angle-sensing-spec =
+    tie.close
+    (tie.spec
+    (λ c. search needs)
+    (λ c κs. search needs)
+    (λ c κs. search needs)
+    (λ c. search needs)
+    (λ c κs. search needs)
+    returns)

@@ -1,0 +1,28 @@
+-- TODO
+use borrow.Author.Needs.{needs}
+use Rattle.drive.proofs.Drive.from_catch_spin.Statement.{statement}
+use Rattle.drive.proofs.Drive.from_catch_spin.Tie as tie
+
+returns : tie.Need-returns
+returns c =
+    rw (
+      c .pick-move3 .ensures,
+      c .before .pick-move2 .ensures,
+      c .before .before .nth .ensures,
+      c .before .before .before .pick-move .ensures,
+      c .before .before .before .before .absolute-speed .ensures,
+    )
+
+pub from-catch-spin-spec : {M : Type 1} → statement M
+from-catch-spin-spec =
+    tie.close
+    (tie.spec
+    (λ c. search needs)
+    (λ c. search needs)
+    (λ c. search needs)
+    (λ c κs. search needs)
+    (λ c κs. search needs)
+    (λ c κs. search needs)
+    (λ c κs. search needs)
+    (λ c κs. search needs)
+    returns)

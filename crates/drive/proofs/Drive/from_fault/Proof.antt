@@ -1,0 +1,26 @@
+-- TODO
+use borrow.Author.Needs.{needs}
+use Rattle.drive.proofs.Drive.from_fault.Statement.{statement}
+use Rattle.drive.proofs.Drive.from_fault.Tie as tie
+
+returns : tie.Need-returns
+returns c =
+    rw (
+      c .pick-move3 .ensures,
+      c .before .pick-move2 .ensures,
+      c .before .before .pick-move .ensures,
+      c .before .before .before .before .before .nth .ensures,
+    )
+
+pub from-fault-spec : {M : Type 1} → statement M
+from-fault-spec =
+    tie.close
+    (tie.spec
+    (λ c. search needs)
+    (λ c κs. search needs)
+    (λ c. search needs)
+    (λ c. search needs)
+    (λ c κs. search needs)
+    (λ c κs. search needs)
+    (λ c κs. search needs)
+    returns)

@@ -1,0 +1,20 @@
+-- TODO
+use borrow.Author.Needs.{needs}
+use Rattle.drive.proofs.Drive.from_offset_cal.Statement.{statement}
+use Rattle.drive.proofs.Drive.from_offset_cal.Tie as tie
+
+returns : tie.Need-returns
+returns c =
+    rw (
+      c .pick-move .ensures,
+      c .before .before .samples .ensures,
+    )
+
+pub from-offset-cal-spec : {M : Type 1} → statement M
+from-offset-cal-spec =
+    tie.close
+    (tie.spec
+    (λ c. search needs)
+    (λ c κs. search needs)
+    (λ c κs. search needs)
+    returns)

@@ -1,0 +1,27 @@
+-- TODO
+use borrow.Author.Needs.{needs}
+use Rattle.drive.specs.Moves.{moveOf}
+use Rattle.drive.proofs.Drive.move_of.Statement.{statement}
+use Rattle.drive.proofs.Drive.move_of.Tie as tie
+
+returns : tie.Need-returns
+unfolding moveOf
+returns c =
+    rw (
+      c .pick-move2 .ensures,
+      c .before .number .ensures,
+      c .before .before .pick-move .ensures,
+      c .before .before .before .is-turning .ensures,
+      c .before .before .before .before .own-move .ensures,
+    )
+
+pub move-of-spec : {M : Type 1} → statement M
+move-of-spec =
+    tie.close
+    (tie.spec
+    (λ c κs. search needs)
+    (λ c κs. search needs)
+    (λ c κs. search needs)
+    (λ c κs. search needs)
+    (λ c κs. search needs)
+    returns)

@@ -1,0 +1,46 @@
+-- TODO
+use borrow.Author.Needs.{needs}
+use Rattle.drive.proofs.Tick.verdict.Statement.{statement}
+use Rattle.drive.proofs.Tick.verdict.Tie as tie
+
+returns : tie.Need-returns
+returns c =
+    rw (
+      c .first11 .ensures,
+      c .before .before .first10 .ensures,
+      c .before .before .before .before .first9 .ensures,
+      c .before .before .before .before .before .before .first8 .ensures,
+      c .before .before .before .before .before .before .before .before .first7 .ensures,
+      c .before .before .before .before .before .before .before .before .before .before .first6 .ensures,
+      c .before .before .before .before .before .before .before .before .before .before .before .before .first5 .ensures,
+      c .before .before .before .before .before .before .before .before .before .before .before .before .before .before .first4 .ensures,
+      c .before .before .before .before .before .before .before .before .before .before .before .before .before .before .before .before .first3 .ensures,
+      c .before .before .before .before .before .before .before .before .before .before .before .before .before .before .before .before .before .absolute-torque .ensures,
+      c .before .before .before .before .before .before .before .before .before .before .before .before .before .before .before .before .before .before .first2 .ensures,
+      c .before .before .before .before .before .before .before .before .before .before .before .before .before .before .before .before .before .before .before .absolute-speed .ensures,
+      c .before .before .before .before .before .before .before .before .before .before .before .before .before .before .before .before .before .before .before .before .first .ensures,
+      c .before .before .before .before .before .before .before .before .before .before .before .before .before .before .before .before .before .before .before .before .before .accepted .ensures,
+      c .before .before .before .before .before .before .before .before .before .before .before .before .before .before .before .before .before .before .before .before .before .before .absolute-target .ensures,
+    )
+
+pub verdict-spec : {M : Type 1} → statement M
+verdict-spec =
+    tie.close
+    (tie.spec
+    (λ c κs. search needs)
+    (λ c κs. search needs)
+    (λ c κs. search needs)
+    (λ c κs. search needs)
+    (λ c κs. search needs)
+    (λ c κs. search needs)
+    (λ c κs. search needs)
+    (λ c. search needs)
+    (λ c κs. search needs)
+    (λ c κs. search needs)
+    (λ c κs. search needs)
+    (λ c κs. search needs)
+    (λ c κs. search needs)
+    (λ c κs. search needs)
+    (λ c κs. search needs)
+    (λ c κs. search needs)
+    returns)

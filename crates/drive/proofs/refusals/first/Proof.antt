@@ -1,0 +1,16 @@
+-- TODO
+use borrow.Author.Needs.{needs}
+use Rattle.drive.proofs.refusals.first.Statement.{statement}
+use Rattle.drive.proofs.refusals.first.Tie as tie
+
+returns : tie.Need-returns
+returns c =
+    rw
+    (c .if1 .taken)
+
+pub first-spec : {M : Type 1} → statement M
+first-spec =
+    tie.close
+    (tie.spec
+    returns
+    (λ c. search needs))

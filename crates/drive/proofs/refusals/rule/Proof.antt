@@ -1,0 +1,23 @@
+-- TODO
+use borrow.Author.Needs.{needs}
+use Rattle.drive.proofs.refusals.rule.Statement.{statement}
+use Rattle.drive.proofs.refusals.rule.Tie as tie
+
+returns : tie.Need-returns
+returns c =
+    rw
+    (c .related .ensures)
+
+pub rule-spec : {M : Type 1} → statement M
+rule-spec =
+    tie.close
+    (tie.spec
+    (λ c. search needs)
+    (λ c. search needs)
+    (λ c. search needs)
+    (λ c. search needs)
+    (λ c. search needs)
+    (λ c. search needs)
+    (λ c. search needs)
+    (λ c κs. search needs)
+    returns)

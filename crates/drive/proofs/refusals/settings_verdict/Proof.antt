@@ -1,0 +1,77 @@
+-- `settings_verdict` walks the rows from the first: what the rows from `i` on say is what all of them say.
+use mathlib.Core.Path.{_≡_, refl, sym, ap, _∙_}
+use mathlib.Core.Bool.{Bool, not}
+use mathlib.Core.List.{List, [], _∷_, map}
+use Prim.Native.Nat.{ℕ, suc, _+_, _-_, _≤_, _<_}
+use native.Mathlib.Numerals.{add-one}
+use native.Mathlib.Omega.{arith}
+use lib.Dec.{eqb, eqb→eq}
+use lib.ListN.{drop, getD}
+use lib.Seq.{drop-cons}
+use borrow.Author.Needs.{needs}
+use borrow.Author.Tests.{not-false}
+use Rattle.numbers.specs.Choose.{pick}
+use Rattle.numbers.proofs.Table.{at}
+use Rattle.drive.specs.Refusals.{verdict, indices, rule, settingRow, settingRows}
+use Rattle.drive.specs.declared.refusals.Verdict.{Verdict}
+use Rattle.drive.proofs.refusals.settings_verdict.Statement.{statement}
+use Rattle.drive.proofs.refusals.settings_verdict.Tie as tie
+
+-- what the rows from the i-th on say
+abbrev from : List ℕ → ℕ → Verdict
+from s i = verdict (map (settingRow s) (drop i indices))
+
+index-is : (i : ℕ) → i < 24 → getD indices i 0 ≡ i
+index-is i small = eqb→eq (getD indices i 0) i (at (λ (k x : ℕ). eqb x k) indices 0 tt i small)
+
+next : (s : List ℕ) (i : ℕ) → i < 24 → from s i ≡ pick (not (rule s i)) (record { number = 2; place = i + 1 }) (from s (suc i))
+next s i small =
+    ap (λ (l : List ℕ). verdict (map (settingRow s) l))
+    (drop-cons indices i 0 small ∙ ap (λ (x : ℕ). x ∷ drop (suc i) indices) (index-is i small))
+
+abbrev Inv-loop : tie.InvT-loop
+Inv-loop settings i₀ i = (i ≤ 24) × (verdict (settingRows settings) ≡ from settings i)
+
+abbrev μ-loop : tie.MeasureT-loop
+μ-loop settings i₀ i = 24 - i
+
+loop-holds : tie.Need-loop-holds Inv-loop μ-loop
+unfolding settingRows
+loop-holds c = (omega arith, refl)
+
+returns : tie.Need-returns Inv-loop μ-loop
+returns c =
+    let s = c .before .before .before .before .args .settings in
+    let i = c .before .before .before .loop .i in
+    rw (c .before .before .before .loop .inv .1, next s i (c .before .before .loop-test .taken), ← c .before .rule .ensures, c .if1 .taken)
+
+loop-again : tie.Need-loop-again Inv-loop μ-loop
+loop-again c =
+    let s = c .before .before .before .before .args .settings in
+    let i = c .before .before .before .loop .i in (
+      search needs,
+      c .before .before .before .loop .inv .1
+          ∙ rw (next s i (c .before .before .loop-test .taken), ← c .before .rule .ensures, c .if1 .left) (ap (from s) (sym (add-one i))),
+    )
+
+returns-2 : tie.Need-returns-2 Inv-loop μ-loop
+returns-2 c =
+    let end : c .before .before .loop .i ≡ 24 = omega (arith, c .before .before .loop .inv .0, c .before .loop-test .left) in
+    rw (c .before .before .loop .inv .1, end) (c .accepted .ensures)
+
+pub settings-verdict-spec : {M : Type 1} → statement M
+settings-verdict-spec =
+    tie.close
+    (tie.spec
+    Inv-loop
+    μ-loop
+    loop-holds
+    (λ c κs. search needs)
+    (λ c. search needs)
+    (λ c. search needs)
+    returns
+    (λ c. search needs)
+    (λ c. search needs)
+    loop-again
+    (λ c κs. search needs)
+    returns-2)

@@ -1,0 +1,16 @@
+-- TODO
+use borrow.Author.Needs.{needs}
+use Rattle.drive.proofs.state.is_turning.Statement.{statement}
+use Rattle.drive.proofs.state.is_turning.Tie as tie
+
+returns : tie.Need-returns
+returns c =
+    rw
+    (c .number .ensures)
+
+pub is-turning-spec : {M : Type 1} → statement M
+is-turning-spec =
+    tie.close
+    (tie.spec
+    (λ c κs. search needs)
+    returns)
