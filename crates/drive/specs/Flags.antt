@@ -52,6 +52,21 @@ live mask f =
       hall = f .hall && bit 15 mask;
     }
 
+-- "flag 15 is set"
+abbrev pub withHall : Bool → Flags → Flags
+withHall set f =
+    record {
+      kill = f .kill;
+      critical = f .critical;
+      over = f .over;
+      under = f .under;
+      flux = f .flux;
+      heat = f .heat;
+      lock = f .lock;
+      timeout = f .timeout;
+      hall = f .hall || set
+    }
+
 abbrev pub any : Flags → Bool
 any f = f .kill || f .critical || f .over || f .under || f .flux || f .heat || f .lock || f .timeout || f .hall
 

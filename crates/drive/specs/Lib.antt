@@ -9,3 +9,4 @@ pub mod Answer
 pub mod Causes
 pub mod Moves
 pub mod Refusals
+pub mod Calls

@@ -3,7 +3,7 @@
 ghost use mathlib.Core.Path.{_≡_};
 ghost use Prim.Native.Nat.{_≤_};
 ghost use Rattle.numbers.specs.Choose.{pick};
-ghost use Rattle.drive.specs.Flags.{none, either, live, any, word};
+ghost use Rattle.drive.specs.Flags.{none, either, live, withHall, any, word};
 
 pub struct Flags {
     pub kill: bool, // 0: gate kill
@@ -18,7 +18,7 @@ pub struct Flags {
 }
 
 impl Flags {
-    pub fn none() -> Self
+    pub(crate) fn none() -> Self
         ensures { λ r. ⌜ r ≡ none ⌝ }
     {
         Flags {
@@ -35,7 +35,7 @@ impl Flags {
     }
 
     // The flags of both.
-    pub fn either(self, other: Flags) -> Flags
+    pub(crate) fn either(self, other: Flags) -> Flags
         ensures { λ r. ⌜ r ≡ either self other ⌝ }
     {
         Flags {
@@ -52,7 +52,7 @@ impl Flags {
     }
 
     // Those that the mask lets live; 0 and 1 always do.
-    pub fn live(self, mask: u16) -> Flags
+    pub(crate) fn live(self, mask: u16) -> Flags
         ensures { λ r. ⌜ r ≡ live mask self ⌝ }
     {
         Flags {
@@ -68,7 +68,24 @@ impl Flags {
         }
     }
 
-    pub fn any(self) -> bool
+    // Flag 15 set besides, where the Hall sample sets it.
+    pub(crate) fn with_hall(self, set: bool) -> Flags
+        ensures { λ r. ⌜ r ≡ withHall set self ⌝ }
+    {
+        Flags {
+            kill: self.kill,
+            critical: self.critical,
+            over: self.over,
+            under: self.under,
+            flux: self.flux,
+            heat: self.heat,
+            lock: self.lock,
+            timeout: self.timeout,
+            hall: self.hall | set,
+        }
+    }
+
+    pub(crate) fn any(self) -> bool
         ensures { λ r. ⌜ r ≡ any self ⌝ }
     {
         self.kill
@@ -83,7 +100,7 @@ impl Flags {
     }
 
     // The word of 16 bits.
-    pub fn word(self) -> u16
+    pub(crate) fn word(self) -> u16
         ensures { λ r. ⌜ r ≡ word self ⌝ }
     {
         let low = bit(self.kill, 1)

@@ -1,5 +1,6 @@
 // The supervisor of one drive: its state, and the calls that change it.
 pub mod answer;
+pub mod calls;
 pub mod causes;
 pub mod choose;
 pub mod command;

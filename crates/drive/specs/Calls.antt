@@ -1,0 +1,181 @@
+-- Document 01: the three calls that change the state. "Each hands the next drive state back beside its answer".
+use Prim.Native.Nat.{ℕ, _+_}
+use mathlib.Core.Bool.{Bool, true, false, _&&_, _||_, not}
+use mathlib.Core.List.{List}
+use lib.Dec.{eqb, ltb}
+use lib.IntN.{ℤ}
+use lib.ListN.{replicate}
+use mir.Syntax.{w16}
+use mir.Val.{toZ}
+use Rattle.numbers.specs.Choose.{pick}
+use Rattle.numbers.specs.Count.{up}
+use Rattle.hall.specs.Sample.{sampled, poweredUp}
+use Rattle.hall.specs.declared.Hall.{Hall}
+use Rattle.hall.specs.declared.Sampled.{Sampled}
+use Rattle.drive.specs.State.{is}
+use Rattle.drive.specs.Settings.{FaultEnable, HallAngleOffset, OffsetPsc, RetryLimit}
+use Rattle.drive.specs.Flags.{none, either, live, withHall, any}
+use Rattle.drive.specs.Command.{low, high}
+use Rattle.drive.specs.Offsets.{samples, unmeasured, added, measuredBy, cleared}
+use Rattle.drive.specs.Run.{still}
+use Rattle.drive.specs.Reference.{times2048, ramped}
+use Rattle.drive.specs.Causes.{watch, causes}
+use Rattle.drive.specs.Moves.{nth, moveOf}
+use Rattle.drive.specs.Refusals.{verdict, loadRows, cycleRows, tickRows}
+use Rattle.drive.specs.Answer.{reply}
+use Rattle.drive.specs.declared.Drive.{Drive}
+use Rattle.drive.specs.declared.Cycle.{Cycle}
+use Rattle.drive.specs.declared.Tick.{Tick}
+use Rattle.drive.specs.declared.state.State.{State}
+use Rattle.drive.specs.declared.state.State.the-variants.{Idle, Stop}
+use Rattle.drive.specs.declared.flags.Flags.{Flags}
+use Rattle.drive.specs.declared.offsets.Offsets.{Offsets}
+use Rattle.drive.specs.declared.run.Run.{Run}
+use Rattle.drive.specs.declared.run.Watched.{Watched}
+use Rattle.drive.specs.declared.moves.Move.{Move}
+use Rattle.drive.specs.declared.moves.Move.the-variants.{Stay, Enter, Measure, Clear, Retry}
+use Rattle.drive.specs.declared.refusals.Verdict.{Verdict}
+use Rattle.drive.specs.declared.answer.Reply.{Reply}
+
+-- everything "to power-up values: flags, position, pattern, offsets and arming", but state and settings
+abbrev pub fresh : State → List ℕ → Drive
+fresh state settings =
+    record {
+      state = state;
+      settings = settings;
+      hall = poweredUp;
+      flags = none;
+      cycles = 0;
+      ticks = 0;
+      offsets = unmeasured;
+      run = still;
+      armed = false;
+      retries = 0
+    }
+
+-- "Power-up is IDLE, all zero."
+abbrev pub powerUp : Drive
+powerUp = fresh Idle (replicate 24 0)
+
+-- "A refusal changes no state ..; its other fields show the unchanged state."
+abbrev pub settle : Verdict → Drive → Drive → Reply
+settle v next d = pick (eqb (v .number) 0) (reply 0 0 next) (reply (v .number) (v .place) d)
+
+-- "An accepted load gives STOP and clears everything else to power-up values"
+unfoldable pub load : Drive → List ℕ → Reply
+load d numbers = settle (verdict (loadRows d numbers)) (fresh Stop numbers) d
+
+-- the sample of a cycle, judged with the offset that is loaded
+abbrev pub sample : Drive → Cycle → Sampled
+sample d c = sampled (d .hall) (c .pattern) (toZ w16 (HallAngleOffset (d .settings)))
+
+-- "In OFFSETCAL the first N = 2^(13 - OffsetPsc) add their samples to two sums."
+abbrev pub summed : Drive → Cycle → Offsets
+summed d c =
+    pick (is 2 (d .state) && ltb (d .cycles) (samples (OffsetPsc (d .settings))))
+    (added (c .first) (c .second) (d .offsets))
+    (d .offsets)
+
+-- "Cycles in the present state are counted to at most 65535."
+unfoldable pub cycled : Drive → Cycle → Drive
+cycled d c =
+    record {
+      state = d .state;
+      settings = d .settings;
+      hall = sample d c .hall;
+      flags = withHall (sample d c .flagged) (d .flags);
+      cycles = up 65535 (d .cycles);
+      ticks = d .ticks;
+      offsets = summed d c;
+      run = d .run;
+      armed = d .armed;
+      retries = d .retries
+    }
+
+unfoldable pub cycle : Drive → Cycle → Reply
+cycle d c = settle (verdict (cycleRows d c)) (cycled d c) d
+
+-- a tick that moves: "Entering a state zeroes its cycle and tick counts"
+abbrev pub arrive : Drive → State → Flags → Offsets → Run → Bool → ℕ → Drive
+arrive d state flags offsets run armed retries =
+    record {
+      state = state;
+      settings = d .settings;
+      hall = d .hall;
+      flags = flags;
+      cycles = 0;
+      ticks = 0;
+      offsets = offsets;
+      run = run;
+      armed = armed;
+      retries = retries
+    }
+
+-- "Entering MOTORRUN takes the measured speed."
+abbrev pub starting : Tick → Run
+starting t = record { slots = still .slots; lock = 0; still = 0; reference = times2048 (t .speed) }
+
+-- "Entering .. in OFFSETCAL its sums"; "A start or entry to FAULT disarms, also in that tick."
+abbrev pub entered : Drive → Tick → Flags → Bool → State → Drive
+entered d t flags armed state =
+    arrive d state flags
+    (pick (is 2 state) (cleared (d .offsets)) (d .offsets))
+    (pick (is 4 state) (starting t) still)
+    (armed && not (is 3 state || is 5 state))
+    (d .retries)
+
+-- a tick that stays in MOTORRUN: the counts go on, and the reference moves toward the target
+abbrev pub ran : List ℕ → Tick → Watched → Run → Run
+ran s t w r = record { slots = w .slots; lock = w .lock; still = w .still; reference = ramped s t (r .reference) }
+
+-- "Each tick staying there [MOTORRUN] moves it toward the target ..; other states hold 0."
+abbrev pub stayed : Drive → Tick → Watched → Flags → Bool → Drive
+stayed d t w flags armed =
+    record {
+      state = d .state;
+      settings = d .settings;
+      hall = d .hall;
+      flags = flags;
+      cycles = d .cycles;
+      ticks = nth d;
+      offsets = d .offsets;
+      run = pick (is 4 (d .state)) (ran (d .settings) t w (d .run)) still;
+      armed = armed;
+      retries = d .retries
+    }
+
+abbrev pub moved : Drive → Tick → Watched → Flags → Bool → Move → Drive
+moved d t w flags armed Stay = stayed d t w flags armed
+moved d t w flags armed (Enter state) = entered d t flags armed state
+-- "to 1; each offset is its sum divided by N, rounded down"
+moved d t w flags armed Measure =
+    arrive d Stop flags (measuredBy (samples (OffsetPsc (d .settings))) (d .offsets)) still armed (d .retries)
+-- "clear = 1 .. zeroes flags and retries, to 1"
+moved d t w flags armed Clear = arrive d Stop none (d .offsets) still armed 0
+-- "flags zero, retries up by one, armed, to 1"
+moved d t w flags armed Retry = arrive d Stop none (d .offsets) still true (up (RetryLimit (d .settings)) (d .retries))
+
+-- "A low, where the state before the tick is not FAULT, arms."
+abbrev pub arms : Drive → Tick → Bool
+arms d t = d .armed || low (d .settings) t && not (is 5 (d .state))
+
+-- the flags after the causes of this tick, and whether one is live; whether a live cause stands
+abbrev pub standing : Drive → Tick → Flags
+standing d t = causes d t (watch d t)
+
+abbrev pub raised : Drive → Tick → Flags
+raised d t = either (d .flags) (standing d t)
+
+abbrev pub alight : Drive → Flags → Bool
+alight d flags = any (live (FaultEnable (d .settings)) flags)
+
+-- the move of a tick
+abbrev pub chosen : Drive → Tick → Move
+chosen d t =
+    moveOf d t (low (d .settings) t) (high (d .settings) t) (alight d (raised d t)) (alight d (standing d t))
+
+unfoldable pub ticked : Drive → Tick → Drive
+ticked d t = moved d t (watch d t) (raised d t) (arms d t) (chosen d t)
+
+unfoldable pub tick : Drive → Tick → Reply
+tick d t = settle (verdict (tickRows d t)) (ticked d t) d

@@ -1,0 +1,142 @@
+// Power-up, and the three calls that change the state.
+use crate::Cycle;
+use crate::Drive;
+use crate::Tick;
+use crate::answer::Reply;
+use crate::answer::replied;
+use crate::flags::Flags;
+use crate::offsets::Offsets;
+use crate::offsets::samples;
+use crate::refusals::settings_verdict;
+use crate::run::Run;
+use crate::state::State;
+use crate::state::number;
+use hall::Hall;
+use hall::Sampled;
+use numbers::count_up;
+use numbers::signed;
+ghost use mathlib.Core.Path.{_≡_};
+ghost use lib.ListN.{length};
+ghost use Rattle.numbers.specs.Choose.{pick};
+ghost use Rattle.drive.specs.Calls.{fresh, powerUp, load, sample, summed, cycled, cycle};
+
+fn fresh(state: State, settings: [u16; 24]) -> Drive
+    ensures { λ r. ⌜ r ≡ fresh state settings ⌝ }
+{
+    let hall = Hall::power_up();
+    let flags = Flags::none();
+    let offsets = Offsets::unmeasured();
+    let run = Run::still();
+    Drive {
+        state,
+        settings,
+        hall,
+        flags,
+        cycles: 0,
+        ticks: 0,
+        offsets,
+        run,
+        armed: false,
+        retries: 0,
+    }
+}
+
+// The 24 numbers of a load as the array that the state keeps.
+fn copied(numbers: &[u16]) -> [u16; 24]
+    requires { ⌜ length (now numbers) ≡ 24 ⌝ }
+    ensures { λ r. ⌜ r ≡ now (numbers .entry) ⌝ }
+{
+    let mut settings = [0u16; 24];
+    let mut i: usize = 0;
+    while i < 24 {
+        settings[i] = numbers[i];
+        i += 1;
+    }
+    settings
+}
+
+fn pick_offsets(test: bool, yes: Offsets, no: Offsets) -> Offsets
+    ensures { λ r. ⌜ r ≡ pick test yes no ⌝ }
+{
+    if test { yes } else { no }
+}
+
+impl Drive {
+    pub fn power_up() -> Self
+        ensures { λ r. ⌜ r ≡ powerUp ⌝ }
+    {
+        fresh(State::Idle, [0u16; 24])
+    }
+
+    pub fn load(self, numbers: &[u16]) -> Reply
+        ensures { λ r. ⌜ r ≡ load self (now (numbers .entry)) ⌝ }
+    {
+        let state = self.state;
+        let n = number(state);
+        if !((n == 0) | (n == 1)) {
+            return replied(self, 4, 0);
+        }
+        if numbers.len() != 24 {
+            return replied(self, 2, 0);
+        }
+        let settings = copied(numbers);
+        let verdict = settings_verdict(settings);
+        if verdict.number != 0 {
+            return replied(self, verdict.number, verdict.place);
+        }
+        replied(fresh(State::Stop, settings), 0, 0)
+    }
+
+    fn sample(self, cycle: Cycle) -> Sampled
+        ensures { λ r. ⌜ r ≡ sample self cycle ⌝ }
+    {
+        let settings = self.settings;
+        let hall = self.hall;
+        hall.sampled(cycle.pattern, signed(settings[9]))
+    }
+
+    fn summed(self, cycle: Cycle) -> Offsets
+        ensures { λ r. ⌜ r ≡ summed self cycle ⌝ }
+    {
+        let settings = self.settings;
+        let state = self.state;
+        let offsets = self.offsets;
+        let counts = (number(state) == 2) & (self.cycles < samples(settings[13]));
+        pick_offsets(counts, offsets.added(cycle.first, cycle.second), offsets)
+    }
+
+    fn cycled(self, cycle: Cycle) -> Drive
+        ensures { λ r. ⌜ r ≡ cycled self cycle ⌝ }
+    {
+        let state = self.state;
+        let settings = self.settings;
+        let old = self.flags;
+        let run = self.run;
+        let sampled = self.sample(cycle);
+        let hall = sampled.hall;
+        let flags = old.with_hall(sampled.flagged);
+        let offsets = self.summed(cycle);
+        Drive {
+            state,
+            settings,
+            hall,
+            flags,
+            cycles: count_up(self.cycles, 65535),
+            ticks: self.ticks,
+            offsets,
+            run,
+            armed: self.armed,
+            retries: self.retries,
+        }
+    }
+
+    pub fn cycle(self, fields: Cycle) -> Reply
+        ensures { λ r. ⌜ r ≡ cycle self fields ⌝ }
+    {
+        let verdict = self.cycle_verdict(fields);
+        if verdict.number != 0 {
+            return replied(self, verdict.number, verdict.place);
+        }
+        replied(self.cycled(fields), 0, 0)
+    }
+}
