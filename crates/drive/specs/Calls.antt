@@ -50,7 +50,7 @@ fresh state settings =
       offsets = unmeasured;
       run = still;
       armed = false;
-      retries = 0
+      retries = 0;
     }
 
 -- "Power-up is IDLE, all zero."
@@ -89,7 +89,7 @@ cycled d c =
       offsets = summed d c;
       run = d .run;
       armed = d .armed;
-      retries = d .retries
+      retries = d .retries;
     }
 
 unfoldable pub cycle : Drive → Cycle → Reply
@@ -108,7 +108,7 @@ arrive d state flags offsets run armed retries =
       offsets = offsets;
       run = run;
       armed = armed;
-      retries = retries
+      retries = retries;
     }
 
 -- "Entering MOTORRUN takes the measured speed."
@@ -141,19 +141,28 @@ stayed d t w flags armed =
       offsets = d .offsets;
       run = pick (is 4 (d .state)) (ran (d .settings) t w (d .run)) still;
       armed = armed;
-      retries = d .retries
+      retries = d .retries;
     }
+
+-- "to 1; each offset is its sum divided by N, rounded down"
+abbrev pub measured : Drive → Flags → Bool → Drive
+measured d flags armed =
+    arrive d Stop flags (measuredBy (samples (OffsetPsc (d .settings))) (d .offsets)) still armed (d .retries)
+
+-- "clear = 1 .. zeroes flags and retries, to 1"
+abbrev pub clearedTrip : Drive → Bool → Drive
+clearedTrip d armed = arrive d Stop none (d .offsets) still armed 0
+
+-- "flags zero, retries up by one, armed, to 1"
+abbrev pub retried : Drive → Drive
+retried d = arrive d Stop none (d .offsets) still true (up (RetryLimit (d .settings)) (d .retries))
 
 abbrev pub moved : Drive → Tick → Watched → Flags → Bool → Move → Drive
 moved d t w flags armed Stay = stayed d t w flags armed
 moved d t w flags armed (Enter state) = entered d t flags armed state
--- "to 1; each offset is its sum divided by N, rounded down"
-moved d t w flags armed Measure =
-    arrive d Stop flags (measuredBy (samples (OffsetPsc (d .settings))) (d .offsets)) still armed (d .retries)
--- "clear = 1 .. zeroes flags and retries, to 1"
-moved d t w flags armed Clear = arrive d Stop none (d .offsets) still armed 0
--- "flags zero, retries up by one, armed, to 1"
-moved d t w flags armed Retry = arrive d Stop none (d .offsets) still true (up (RetryLimit (d .settings)) (d .retries))
+moved d t w flags armed Measure = measured d flags armed
+moved d t w flags armed Clear = clearedTrip d armed
+moved d t w flags armed Retry = retried d
 
 -- "A low, where the state before the tick is not FAULT, arms."
 abbrev pub arms : Drive → Tick → Bool

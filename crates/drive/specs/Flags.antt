@@ -64,7 +64,7 @@ withHall set f =
       heat = f .heat;
       lock = f .lock;
       timeout = f .timeout;
-      hall = f .hall || set
+      hall = f .hall || set;
     }
 
 abbrev pub any : Flags → Bool

@@ -55,7 +55,7 @@ fn copied(numbers: &[u16]) -> [u16; 24]
     settings
 }
 
-fn pick_offsets(test: bool, yes: Offsets, no: Offsets) -> Offsets
+pub(crate) fn pick_offsets(test: bool, yes: Offsets, no: Offsets) -> Offsets
     ensures { λ r. ⌜ r ≡ pick test yes no ⌝ }
 {
     if test { yes } else { no }

@@ -11,6 +11,7 @@ pub mod reference;
 pub mod refusals;
 pub mod run;
 pub mod state;
+pub mod ticks;
 
 use flags::Flags;
 use hall::Hall;

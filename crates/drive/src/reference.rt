@@ -6,11 +6,18 @@ ghost use Prim.Native.Nat.{_<_};
 ghost use lib.Signed.{mag};
 ghost use Rattle.drive.specs.Reference.{times2048, target0, target1, targetOf, toward, ramped};
 
-pub(crate) fn times_2048(number: i32) -> i32
+fn times_2048(number: i32) -> i32
     requires { ⌜ mag number < 65536 ⌝ }
     ensures { λ r. ⌜ r ≡ times2048 number ⌝ }
 {
     number * 2048
+}
+
+// What entering MOTORRUN takes.
+pub(crate) fn scaled(speed: i16) -> i32
+    ensures { λ r. ⌜ r ≡ times2048 speed ⌝ }
+{
+    times_2048(speed as i32)
 }
 
 fn target_0(minimum: u16, target: i16) -> i32

@@ -13,10 +13,11 @@ returns c =
 returns-2 : tie.Need-returns-2
 unfolding cycle
 returns-2 c =
-    rw
-    (← c .before .before .before .before .cycle-verdict .ensures,
-    eq-eqb _ _ (c .before .before .if1 .left),
-    ← c .before .cycled .ensures)
+    rw (
+      ← c .before .before .before .before .cycle-verdict .ensures,
+      eq-eqb _ _ (c .before .before .if1 .left),
+      ← c .before .cycled .ensures,
+    )
     (c .replied2 .ensures)
 
 pub cycle-spec : {M : Type 1} → statement M

@@ -7,11 +7,12 @@ use Rattle.drive.proofs.Drive.cycled.Tie as tie
 returns : tie.Need-returns
 unfolding cycled
 returns c =
-    rw
-    (c .count-up .ensures,
-    c .before .summed .ensures,
-    c .before .before .with-hall .ensures,
-    c .before .before .before .before .sample .ensures)
+    rw (
+      c .count-up .ensures,
+      c .before .summed .ensures,
+      c .before .before .with-hall .ensures,
+      c .before .before .before .before .sample .ensures,
+    )
 
 pub cycled-spec : {M : Type 1} → statement M
 cycled-spec =

@@ -20,26 +20,28 @@ returns-2 c =
 returns-3 : tie.Need-returns-3
 unfolding load
 returns-3 c =
-    rw
-    (← c .before .before .before .before .before .before .before .number .ensures,
-    c .before .before .before .before .before .before .if1 .left,
-    eq-eqb _ _ (c .before .before .before .before .before .if2 .left),
-    ← c .before .before .before .before .copied .ensures,
-    ← c .before .before .before .settings-verdict .ensures,
-    ne-eqb _ _ (c .before .if3 .taken))
+    rw (
+      ← c .before .before .before .before .before .before .before .number .ensures,
+      c .before .before .before .before .before .before .if1 .left,
+      eq-eqb _ _ (c .before .before .before .before .before .if2 .left),
+      ← c .before .before .before .before .copied .ensures,
+      ← c .before .before .before .settings-verdict .ensures,
+      ne-eqb _ _ (c .before .if3 .taken),
+    )
     (c .replied3 .ensures)
 
 returns-4 : tie.Need-returns-4
 unfolding load
 returns-4 c =
-    rw
-    (← c .before .before .before .before .before .before .before .before .number .ensures,
-    c .before .before .before .before .before .before .before .if1 .left,
-    eq-eqb _ _ (c .before .before .before .before .before .before .if2 .left),
-    ← c .before .before .before .before .before .copied .ensures,
-    ← c .before .before .before .before .settings-verdict .ensures,
-    eq-eqb _ _ (c .before .before .if3 .left),
-    ← c .before .fresh .ensures)
+    rw (
+      ← c .before .before .before .before .before .before .before .before .number .ensures,
+      c .before .before .before .before .before .before .before .if1 .left,
+      eq-eqb _ _ (c .before .before .before .before .before .before .if2 .left),
+      ← c .before .before .before .before .before .copied .ensures,
+      ← c .before .before .before .before .settings-verdict .ensures,
+      eq-eqb _ _ (c .before .before .if3 .left),
+      ← c .before .fresh .ensures,
+    )
     (c .replied4 .ensures)
 
 pub load-spec : {M : Type 1} → statement M

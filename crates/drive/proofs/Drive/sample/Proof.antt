@@ -7,10 +7,11 @@ use Rattle.drive.proofs.Drive.sample.Tie as tie
 
 returns : tie.Need-returns
 returns c =
-    rw
-    (c .sampled .ensures,
-    toZ-ofZ {w = w16} {z = c .before .signed .result} (search needs),
-    c .before .signed .ensures)
+    rw (
+      c .sampled .ensures,
+      toZ-ofZ {w = w16} {z = c .before .signed .result} (search needs),
+      c .before .signed .ensures,
+    )
 
 pub sample-spec : {M : Type 1} → statement M
 sample-spec =

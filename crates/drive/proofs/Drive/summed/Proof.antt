@@ -5,11 +5,12 @@ use Rattle.drive.proofs.Drive.summed.Tie as tie
 
 returns : tie.Need-returns
 returns c =
-    rw
-    (c .pick-offsets .ensures,
-    c .before .added .ensures,
-    c .before .before .before .samples .ensures,
-    c .before .before .before .before .number .ensures)
+    rw (
+      c .pick-offsets .ensures,
+      c .before .added .ensures,
+      c .before .before .before .samples .ensures,
+      c .before .before .before .before .number .ensures,
+    )
 
 pub summed-spec : {M : Type 1} → statement M
 summed-spec =

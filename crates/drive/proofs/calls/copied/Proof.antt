@@ -26,13 +26,14 @@ loop-again c =
     let settings = c .before .before .loop .settings in
     let i = c .before .before .loop .i in
     let inv = c .before .before .loop .inv in
-    let small : i < 24 = c .before .loop-test .taken in
-    (omega arith,
-    length-set settings i (getD numbers i 0) ∙ inv .1,
-    inv .2,
-    below-more (λ (k : ℕ). getD (set settings i (getD numbers i 0)) k 0 ≡ getD numbers k 0) i
-    (λ k below. getD-set-other settings i k (getD numbers i 0) 0 (λ same. omega (arith, below, same)) ∙ inv .3 k below)
-    (getD-set-same settings i (getD numbers i 0) 0 (omega (arith, small, inv .1))))
+    let small : i < 24 = c .before .loop-test .taken in (
+      omega arith,
+      length-set settings i (getD numbers i 0) ∙ inv .1,
+      inv .2,
+      below-more (λ (k : ℕ). getD (set settings i (getD numbers i 0)) k 0 ≡ getD numbers k 0) i
+          (λ k below. getD-set-other settings i k (getD numbers i 0) 0 (λ same. omega (arith, below, same)) ∙ inv .3 k below)
+          (getD-set-same settings i (getD numbers i 0) 0 (omega (arith, small, inv .1))),
+    )
 
 returns : tie.Need-returns Inv-loop μ-loop
 returns c =

@@ -1,0 +1,20 @@
+-- TODO
+use borrow.Author.Needs.{needs}
+use Rattle.drive.proofs.Drive.alight.Statement.{statement}
+use Rattle.drive.proofs.Drive.alight.Tie as tie
+
+returns : tie.Need-returns
+returns c =
+    rw (
+      c .any .ensures,
+      c .before .live .ensures,
+    )
+
+pub alight-spec : {M : Type 1} → statement M
+alight-spec =
+    tie.close
+    (tie.spec
+    (λ c. search needs)
+    (λ c κs. search needs)
+    (λ c κs. search needs)
+    returns)

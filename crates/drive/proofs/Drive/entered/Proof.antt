@@ -1,0 +1,29 @@
+-- TODO
+use borrow.Author.Needs.{needs}
+use Rattle.drive.proofs.Drive.entered.Statement.{statement}
+use Rattle.drive.proofs.Drive.entered.Tie as tie
+
+returns : tie.Need-returns
+returns c =
+    rw (
+      c .arrive .ensures,
+      c .before .pick-run .ensures,
+      c .before .before .still .ensures,
+      c .before .before .before .starting .ensures,
+      c .before .before .before .before .pick-offsets .ensures,
+      c .before .before .before .before .before .cleared .ensures,
+      c .before .before .before .before .before .before .before .number .ensures,
+    )
+
+pub entered-spec : {M : Type 1} → statement M
+entered-spec =
+    tie.close
+    (tie.spec
+    (λ c κs. search needs)
+    (λ c κs. search needs)
+    (λ c κs. search needs)
+    (λ c κs. search needs)
+    (λ c κs. search needs)
+    (λ c κs. search needs)
+    (λ c κs. search needs)
+    returns)

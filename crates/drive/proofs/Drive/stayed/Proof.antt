@@ -1,0 +1,25 @@
+-- TODO
+use borrow.Author.Needs.{needs}
+use Rattle.drive.proofs.Drive.stayed.Statement.{statement}
+use Rattle.drive.proofs.Drive.stayed.Tie as tie
+
+returns : tie.Need-returns
+returns c =
+    rw (
+      c .nth .ensures,
+      c .before .pick-run .ensures,
+      c .before .before .still .ensures,
+      c .before .before .before .ran .ensures,
+      c .before .before .before .before .number .ensures,
+    )
+
+pub stayed-spec : {M : Type 1} → statement M
+stayed-spec =
+    tie.close
+    (tie.spec
+    (λ c κs. search needs)
+    (λ c κs. search needs)
+    (λ c κs. search needs)
+    (λ c κs. search needs)
+    (λ c κs. search needs)
+    returns)

@@ -1,0 +1,37 @@
+-- TODO
+use borrow.Author.Needs.{needs}
+use Rattle.drive.specs.Calls.{ticked}
+use Rattle.drive.proofs.Drive.ticked.Statement.{statement}
+use Rattle.drive.proofs.Drive.ticked.Tie as tie
+
+returns : tie.Need-returns
+unfolding ticked
+returns c =
+    rw (
+      c .moved .ensures,
+      c .before .arms .ensures,
+      c .before .before .move-of .ensures,
+      c .before .before .before .alight2 .ensures,
+      c .before .before .before .before .alight .ensures,
+      c .before .before .before .before .before .high .ensures,
+      c .before .before .before .before .before .before .low .ensures,
+      c .before .before .before .before .before .before .before .either .ensures,
+      c .before .before .before .before .before .before .before .before .causes .ensures,
+      c .before .before .before .before .before .before .before .before .before .watched .ensures,
+    )
+
+pub ticked-spec : {M : Type 1} → statement M
+ticked-spec =
+    tie.close
+    (tie.spec
+    (λ c κs. search needs)
+    (λ c κs. search needs)
+    (λ c κs. search needs)
+    (λ c κs. search needs)
+    (λ c κs. search needs)
+    (λ c κs. search needs)
+    (λ c κs. search needs)
+    (λ c κs. search needs)
+    (λ c κs. search needs)
+    (λ c κs. search needs)
+    returns)
