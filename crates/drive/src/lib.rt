@@ -1,17 +1,17 @@
 // The supervisor of one drive: its state, and the calls that change it.
 pub mod answer;
-pub mod calls;
-pub mod causes;
-pub mod choose;
-pub mod command;
+mod calls;
+mod causes;
+mod choose;
+mod command;
 pub mod flags;
 pub mod moves;
 pub mod offsets;
-pub mod reference;
+mod reference;
 pub mod refusals;
 pub mod run;
 pub mod state;
-pub mod ticks;
+mod ticks;
 
 use flags::Flags;
 use hall::Hall;

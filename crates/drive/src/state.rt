@@ -16,7 +16,7 @@ pub enum State {
 }
 
 // The paper's number of a state.
-pub fn number(state: State) -> u8
+pub(crate) fn number(state: State) -> u8
     ensures { λ r. ⌜ r ≡ numberOf state ⌝ }
 {
     match state {

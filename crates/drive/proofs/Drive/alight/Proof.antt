@@ -1,4 +1,4 @@
--- TODO
+-- `alight` asks of the live flags whether any is set, as the definition does.
 use borrow.Author.Needs.{needs}
 use Rattle.drive.proofs.Drive.alight.Statement.{statement}
 use Rattle.drive.proofs.Drive.alight.Tie as tie

@@ -1,4 +1,4 @@
--- TODO
+-- `arms` is the definition with the command and the state read by their functions.
 use borrow.Author.Needs.{needs}
 use Rattle.drive.proofs.Drive.arms.Statement.{statement}
 use Rattle.drive.proofs.Drive.arms.Tie as tie

@@ -1,4 +1,4 @@
--- TODO
+-- `causes` compares each field as the definition does; only the state is read by a function.
 use borrow.Author.Needs.{needs}
 use Rattle.drive.specs.Causes.{causes}
 use Rattle.drive.proofs.Drive.causes.Statement.{statement}

@@ -1,4 +1,4 @@
--- TODO
+-- `cycle_verdict` puts each row before the later ones, from the last to the first: the first that holds is left.
 use borrow.Author.Needs.{needs}
 use Rattle.drive.proofs.Drive.cycle_verdict.Statement.{statement}
 use Rattle.drive.proofs.Drive.cycle_verdict.Tie as tie

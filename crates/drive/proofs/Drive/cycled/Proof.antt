@@ -1,4 +1,4 @@
--- TODO
+-- `cycled` makes the next state in one literal, each changed part by the function of its definition.
 use borrow.Author.Needs.{needs}
 use Rattle.drive.specs.Calls.{cycled}
 use Rattle.drive.proofs.Drive.cycled.Statement.{statement}

@@ -1,4 +1,4 @@
--- TODO
+-- `entered` picks what the state entered starts with, by that state's number.
 use borrow.Author.Needs.{needs}
 use Rattle.drive.proofs.Drive.entered.Statement.{statement}
 use Rattle.drive.proofs.Drive.entered.Tie as tie

@@ -1,4 +1,4 @@
--- TODO
+-- `from_angle_sensing` picks in the order of the paper's sentence.
 use borrow.Author.Needs.{needs}
 use Rattle.drive.proofs.Drive.from_angle_sensing.Statement.{statement}
 use Rattle.drive.proofs.Drive.from_angle_sensing.Tie as tie

@@ -1,4 +1,4 @@
--- TODO
+-- `from_catch_spin` picks in the order of the paper's sentence, by the absolute speed.
 use borrow.Author.Needs.{needs}
 use Rattle.drive.proofs.Drive.from_catch_spin.Statement.{statement}
 use Rattle.drive.proofs.Drive.from_catch_spin.Tie as tie

@@ -1,4 +1,4 @@
--- TODO
+-- `from_fault` asks for a live cause first, then for clear, then for a retry.
 use borrow.Author.Needs.{needs}
 use Rattle.drive.proofs.Drive.from_fault.Statement.{statement}
 use Rattle.drive.proofs.Drive.from_fault.Tie as tie

@@ -1,4 +1,4 @@
--- TODO
+-- `from_offset_cal` compares the cycles done with the number of samples.
 use borrow.Author.Needs.{needs}
 use Rattle.drive.proofs.Drive.from_offset_cal.Statement.{statement}
 use Rattle.drive.proofs.Drive.from_offset_cal.Tie as tie

@@ -1,4 +1,4 @@
--- TODO
+-- `from_open_loop` picks by the absolute speed, or at once.
 use borrow.Author.Needs.{needs}
 use Rattle.drive.proofs.Drive.from_open_loop.Statement.{statement}
 use Rattle.drive.proofs.Drive.from_open_loop.Tie as tie

@@ -1,4 +1,4 @@
--- TODO
+-- `from_parking` compares ParkTime with the number of this tick.
 use borrow.Author.Needs.{needs}
 use Rattle.drive.proofs.Drive.from_parking.Statement.{statement}
 use Rattle.drive.proofs.Drive.from_parking.Tie as tie

@@ -1,4 +1,4 @@
--- TODO
+-- `from_stop` asks for the offsets first, then for the start.
 use borrow.Author.Needs.{needs}
 use Rattle.drive.proofs.Drive.from_stop.Statement.{statement}
 use Rattle.drive.proofs.Drive.from_stop.Tie as tie

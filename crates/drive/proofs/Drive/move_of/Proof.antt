@@ -1,4 +1,4 @@
--- TODO
+-- `move_of` puts a live flag before a low, and a low before the state's own move.
 use borrow.Author.Needs.{needs}
 use Rattle.drive.specs.Moves.{moveOf}
 use Rattle.drive.proofs.Drive.move_of.Statement.{statement}

@@ -1,4 +1,4 @@
--- TODO
+-- `moved` does for each move what the definition does for it.
 use borrow.Author.Needs.{needs}
 use Rattle.drive.proofs.Drive.moved.Statement.{statement}
 use Rattle.drive.proofs.Drive.moved.Tie as tie

@@ -1,4 +1,4 @@
--- TODO
+-- `own_move` takes each state to the function of its own move.
 use borrow.Author.Needs.{needs}
 use Rattle.drive.proofs.Drive.own_move.Statement.{statement}
 use Rattle.drive.proofs.Drive.own_move.Tie as tie

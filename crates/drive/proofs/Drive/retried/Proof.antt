@@ -1,4 +1,4 @@
--- TODO
+-- `retried` arrives in STOP, armed, with one retry more.
 use borrow.Author.Needs.{needs}
 use Rattle.drive.proofs.Drive.retried.Statement.{statement}
 use Rattle.drive.proofs.Drive.retried.Tie as tie

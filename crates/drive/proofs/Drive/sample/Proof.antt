@@ -1,4 +1,4 @@
--- TODO
+-- `sample` judges with the offset read as a signed number.
 use mir.Syntax.{w16}
 use mir.Facts.{toZ-ofZ}
 use borrow.Author.Needs.{needs}

@@ -1,4 +1,4 @@
--- TODO
+-- `stayed` copies what stays and counts the tick; only MOTORRUN goes on running.
 use borrow.Author.Needs.{needs}
 use Rattle.drive.proofs.Drive.stayed.Statement.{statement}
 use Rattle.drive.proofs.Drive.stayed.Tie as tie

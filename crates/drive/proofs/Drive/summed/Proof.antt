@@ -1,4 +1,4 @@
--- TODO
+-- `summed` adds the samples in OFFSETCAL while they are among the first N.
 use borrow.Author.Needs.{needs}
 use Rattle.drive.proofs.Drive.summed.Statement.{statement}
 use Rattle.drive.proofs.Drive.summed.Tie as tie

@@ -1,4 +1,4 @@
--- TODO
+-- `tick_verdict` puts IDLE before the fields.
 use borrow.Author.Needs.{needs}
 use Rattle.drive.proofs.Drive.tick_verdict.Statement.{statement}
 use Rattle.drive.proofs.Drive.tick_verdict.Tie as tie

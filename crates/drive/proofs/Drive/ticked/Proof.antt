@@ -1,4 +1,4 @@
--- TODO
+-- `ticked` calls the definitions' functions in their order: causes, flags, command, move, next state.
 use borrow.Author.Needs.{needs}
 use Rattle.drive.specs.Calls.{ticked}
 use Rattle.drive.proofs.Drive.ticked.Statement.{statement}

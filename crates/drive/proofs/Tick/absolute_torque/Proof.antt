@@ -1,4 +1,4 @@
--- TODO
+-- `absolute_torque` passes the torque on as it is.
 use mir.Syntax.{w16}
 use mir.Facts.{toZ-ofZ}
 use borrow.Author.Needs.{needs}

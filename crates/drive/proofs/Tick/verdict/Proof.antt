@@ -1,4 +1,4 @@
--- TODO
+-- `verdict` puts each field's row before the later ones, from the last to the first: the first that holds is left.
 use borrow.Author.Needs.{needs}
 use Rattle.drive.proofs.Tick.verdict.Statement.{statement}
 use Rattle.drive.proofs.Tick.verdict.Tie as tie

@@ -1,4 +1,4 @@
--- TODO
+-- `gate` asks for live bit 0, then 1, then any, then goes by the state.
 use borrow.Author.Needs.{needs}
 use Rattle.drive.proofs.answer.gate.Statement.{statement}
 use Rattle.drive.proofs.answer.gate.Tie as tie

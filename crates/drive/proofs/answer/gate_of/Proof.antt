@@ -1,4 +1,4 @@
--- TODO
+-- `gate_of` goes by the state's number.
 use borrow.Author.Needs.{needs}
 use Rattle.drive.proofs.answer.gate_of.Statement.{statement}
 use Rattle.drive.proofs.answer.gate_of.Tie as tie

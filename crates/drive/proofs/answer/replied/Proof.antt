@@ -1,4 +1,4 @@
--- TODO
+-- `replied` puts the answer beside the state that it shows.
 use borrow.Author.Needs.{needs}
 use Rattle.drive.proofs.answer.replied.Statement.{statement}
 use Rattle.drive.proofs.answer.replied.Tie as tie

@@ -1,4 +1,4 @@
--- TODO
+-- `fresh` takes each part at its power-up value.
 use borrow.Author.Needs.{needs}
 use Rattle.drive.proofs.calls.fresh.Statement.{statement}
 use Rattle.drive.proofs.calls.fresh.Tie as tie

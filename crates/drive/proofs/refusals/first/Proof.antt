@@ -1,4 +1,4 @@
--- TODO
+-- `first` is one row of the table: it wins where it holds.
 use borrow.Author.Needs.{needs}
 use Rattle.drive.proofs.refusals.first.Statement.{statement}
 use Rattle.drive.proofs.refusals.first.Tie as tie

@@ -1,4 +1,4 @@
--- TODO
+-- `related` asks for each of the three relations at the setting that states it.
 use borrow.Author.Needs.{needs}
 use Rattle.drive.proofs.refusals.related.Statement.{statement}
 use Rattle.drive.proofs.refusals.related.Tie as tie

@@ -1,4 +1,4 @@
--- TODO
+-- `rule` reads both tables of limits at the setting's index.
 use borrow.Author.Needs.{needs}
 use Rattle.drive.proofs.refusals.rule.Statement.{statement}
 use Rattle.drive.proofs.refusals.rule.Tie as tie

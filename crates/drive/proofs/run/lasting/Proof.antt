@@ -1,4 +1,4 @@
--- TODO
+-- `lasting` counts on while the condition holds, else from zero.
 use borrow.Author.Needs.{needs}
 use Rattle.drive.proofs.run.lasting.Statement.{statement}
 use Rattle.drive.proofs.run.lasting.Tie as tie

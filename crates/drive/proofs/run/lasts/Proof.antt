@@ -1,4 +1,4 @@
--- TODO
+-- `lasts` compares the count with its limit.
 use borrow.Author.Needs.{needs}
 use Rattle.drive.proofs.run.lasts.Statement.{statement}
 use Rattle.drive.proofs.run.lasts.Tie as tie

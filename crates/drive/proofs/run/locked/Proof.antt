@@ -1,4 +1,4 @@
--- TODO
+-- `locked` compares absolute values.
 use borrow.Author.Needs.{needs}
 use Rattle.drive.proofs.run.locked.Statement.{statement}
 use Rattle.drive.proofs.run.locked.Tie as tie

@@ -1,4 +1,4 @@
--- TODO
+-- `is_turning` goes by the state's number.
 use borrow.Author.Needs.{needs}
 use Rattle.drive.proofs.state.is_turning.Statement.{statement}
 use Rattle.drive.proofs.state.is_turning.Tie as tie

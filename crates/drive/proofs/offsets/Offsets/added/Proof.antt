@@ -1,4 +1,4 @@
--- TODO
+-- `added` adds to each sum with wrapping, as the definition does.
 use borrow.Author.Needs.{needs}
 use Rattle.drive.proofs.offsets.Offsets.added.Statement.{statement}
 use Rattle.drive.proofs.offsets.Offsets.added.Tie as tie

@@ -1,4 +1,4 @@
--- TODO
+-- `watched` hands each count its limit and its condition.
 use borrow.Author.Needs.{needs}
 use Rattle.drive.specs.Run.{watched}
 use Rattle.drive.proofs.run.Run.watched.Statement.{statement}

@@ -1,4 +1,4 @@
--- TODO
+-- `flux_stands` counts as the definition does.
 use borrow.Author.Needs.{needs}
 use Rattle.drive.proofs.run.Slots.flux_stands.Statement.{statement}
 use Rattle.drive.proofs.run.Slots.flux_stands.Tie as tie

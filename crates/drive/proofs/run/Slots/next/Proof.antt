@@ -1,4 +1,4 @@
--- TODO
+-- `next` counts as the definition does.
 use borrow.Author.Needs.{needs}
 use Rattle.drive.proofs.run.Slots.next.Statement.{statement}
 use Rattle.drive.proofs.run.Slots.next.Tie as tie
