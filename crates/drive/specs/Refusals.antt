@@ -2,7 +2,7 @@
 use Prim.Native.Nat.{ℕ, _+_, _-_}
 use mathlib.Core.Bool.{Bool, true, false, _&&_, _||_, not}
 use mathlib.Core.List.{List, [], _∷_, map}
-use lib.Dec.{eqb, ltb, leb}
+use lib.Dec.{T, eqb, ltb, leb}
 use lib.IntN.{natAbs}
 use lib.ListN.{length, getD}
 use Rattle.numbers.specs.Choose.{pick}
@@ -25,10 +25,19 @@ row number place holds = record { number = number; place = place; holds = holds 
 abbrev pub accepted : Verdict
 accepted = record { number = 0; place = 0 }
 
+-- what a row gives
+abbrev pub told : Row → Verdict
+told r = record { number = r .number; place = r .place }
+
 -- the first row that holds, or "0 accepted"
 abbrev pub verdict : List Row → Verdict
 verdict [] = accepted
-verdict (r ∷ rows) = pick (r .holds) (record { number = r .number; place = r .place }) (verdict rows)
+verdict (r ∷ rows) = pick (r .holds) (told r) (verdict rows)
+
+-- "its row holds and none earlier in this order does"
+pub data First : List Row → Row → Type 0 where
+  here : {r : Row} {rows : List Row} → T (r .holds) → First (r ∷ rows) r
+  later : {r q : Row} {rows : List Row} → T (not (r .holds)) → First rows q → First (r ∷ rows) q
 
 -- "3: cycle or tick in IDLE. 1: cycle or tick field out of range, first bad field, from 1."
 -- "Fields: Hall pattern 0..7, two current samples 0..4095."

@@ -1,0 +1,2 @@
+-- What callers of this crate cite besides its promises.
+pub mod Table
