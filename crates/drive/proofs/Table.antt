@@ -28,7 +28,7 @@ given-first [] given = absurd (given refl)
 given-first (r ∷ rows) given = go (r .holds) refl given (given-first rows)
   where
     go : (b : Bool) → r .holds ≡ b → (pick b (told r) (verdict rows) .number ≡ 0 → ⊥) → ((verdict rows .number ≡ 0 → ⊥) → (q : Row) × First rows q × (verdict rows ≡ told q)) → (q : Row) × First (r ∷ rows) q × (pick b (told r) (verdict rows) ≡ told q)
-    go true e given ih = (r, here (rw e tt), refl)
+    go true e given ih = (r, here {r = r} (rw e tt), refl)
     go false e given ih = let found = ih given in (found .0, later {r = r} (rw e tt) (found .1), found .2)
 
 pub exactly : (rows : List Row) (v : Verdict) → (v .number ≡ 0 → ⊥) → (verdict rows ≡ v) ↔ ((r : Row) × First rows r × (told r ≡ v))

@@ -1,0 +1,49 @@
+-- Tests joined by "and", "or" and "not", taken apart and put together.
+use mathlib.Core.Bool.{Bool, true, false, not, _&&_, _||_, cond}
+use lib.Dec.{T, T-not}
+
+pub and : (a b : Bool) → T a → T b → T (a && b)
+and true b p q = q
+and false b p q = p
+
+pub or-left : (a b : Bool) → T a → T (a || b)
+or-left true b p = tt
+or-left false b p = absurd p
+
+pub or-right : (a b : Bool) → T b → T (a || b)
+or-right true b p = tt
+or-right false b p = p
+
+pub or-cases : {C : Type 0} (a b : Bool) → T (a || b) → (T a → C) → (T b → C) → C
+or-cases true b p f g = f tt
+or-cases false b p f g = g p
+
+-- the second fails, so it was the first
+pub or-not : (a b : Bool) → T (a || b) → T (not b) → T a
+or-not true b p q = tt
+or-not false b p q = T-not b q p
+
+pub nor : (a b : Bool) → T (not a) → T (not b) → T (not (a || b))
+nor true b p q = p
+nor false b p q = q
+
+-- a test that would make another fail fails where that one passes
+pub rules-out : (a b : Bool) → (T a → T (not b)) → T b → T (not a)
+rules-out true b f q = T-not b (f tt) q
+rules-out false b f q = tt
+
+-- a test passes or fails
+pub cases : {C : Type 0} (a : Bool) → (T a → C) → (T (not a) → C) → C
+cases true f g = f tt
+cases false f g = g tt
+
+-- what holds of either branch where it is taken holds of the choice
+pub cond-cases : {A : Type 0} (P : A → Type 0) (test : Bool) (x y : A) → (T test → P x) → (T (not test) → P y) → P (cond test x y)
+cond-cases P true x y f g = f tt
+cond-cases P false x y f g = g tt
+
+-- how joined tests are put together, for `search`
+pub ruleset joins = (and, or-left, or-right, nor)
+
+-- a law at a call whose tests are all known: `search computed`
+pub ruleset computed = (joins, absurd)

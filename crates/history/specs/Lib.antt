@@ -1,0 +1,4 @@
+pub mod History
+pub mod Onlooker
+pub mod Supervisor
+pub mod Laws
