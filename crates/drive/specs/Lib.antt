@@ -10,3 +10,4 @@ pub mod Causes
 pub mod Moves
 pub mod Refusals
 pub mod Calls
+pub mod Sequence

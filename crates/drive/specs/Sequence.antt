@@ -1,0 +1,19 @@
+-- Document 01, "What the promises settle": "Its sequences hand each call the state that the call before left, the first that of power-up."
+use mathlib.Core.List.{List}
+use Prim.Native.Nat.{ℕ}
+use Rattle.drive.specs.Calls.{load, cycle, tick}
+use Rattle.drive.specs.declared.Drive.{Drive}
+use Rattle.drive.specs.declared.Cycle.{Cycle}
+use Rattle.drive.specs.declared.Tick.{Tick}
+use Rattle.drive.specs.declared.answer.Reply.{Reply}
+
+-- "Three calls change the state": each with whatever it is told
+pub data Call : Type 0 where
+  loads : List ℕ → Call
+  cycles : Cycle → Call
+  ticks : Tick → Call
+
+abbrev pub reply : Drive → Call → Reply
+reply d (loads numbers) = load d numbers
+reply d (cycles fields) = cycle d fields
+reply d (ticks fields) = tick d fields
