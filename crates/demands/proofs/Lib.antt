@@ -3,3 +3,4 @@ pub mod Gates
 pub mod Allowed
 pub mod Steps
 pub mod Ticks
+pub mod Lawful

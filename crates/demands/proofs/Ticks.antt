@@ -71,6 +71,30 @@ run-place Parking t = refl
 run-place OpenLoop t = refl
 run-place AngleSensing t = refl
 
+run-loaded : (state : State) → T (isRun state) → T (not (is 0 state))
+run-loaded Idle t = absurd t
+run-loaded Stop t = absurd t
+run-loaded OffsetCal t = absurd t
+run-loaded BtsCharge t = absurd t
+run-loaded MotorRun t = tt
+run-loaded Fault t = absurd t
+run-loaded CatchSpin t = tt
+run-loaded Parking t = tt
+run-loaded OpenLoop t = tt
+run-loaded AngleSensing t = tt
+
+run-unarmed : (state : State) → T (isRun state) → (armed : Bool) → T (not (is 5 state && armed))
+run-unarmed Idle t armed = absurd t
+run-unarmed Stop t armed = absurd t
+run-unarmed OffsetCal t armed = absurd t
+run-unarmed BtsCharge t armed = absurd t
+run-unarmed MotorRun t armed = tt
+run-unarmed Fault t armed = absurd t
+run-unarmed CatchSpin t armed = tt
+run-unarmed Parking t armed = tt
+run-unarmed OpenLoop t armed = tt
+run-unarmed AngleSensing t armed = tt
+
 -- ---- what the drive holds inside
 
 abbrev pub inside : Drive → Inside
@@ -104,6 +128,12 @@ unarmed : (armed low : Bool) → T (not armed) → T (not (armed || low && false
 unarmed true low t = absurd t
 unarmed false true t = tt
 unarmed false false t = tt
+
+stays-unarmed : (fault armed low : Bool) → T (not (fault && armed)) → T (not (fault && (armed || low && not fault)))
+stays-unarmed true true low t = absurd t
+stays-unarmed true false true t = tt
+stays-unarmed true false false t = tt
+stays-unarmed false armed low t = tt
 
 no-fault : (place : Place) → T (isStartOrRun place) → T (not (isFault place))
 no-fault atStop t = tt
@@ -147,7 +177,7 @@ module _ (settings : List ℕ) (hall : Hall) (flags : Flags) (cycles ticks : ℕ
   Obeys state after =
       Step (inside (at state))
       (noted (tick (low settings t) (eqb (t .clear) 1)) (placeOf state) (placeOf (after .state)) (blocked state)
-      (any (alive after)) (turns after) (RetryLimit settings))
+      (any (alive after)) (turns after) (RetryLimit (after .settings)))
       (inside after)
 
   by-move :
@@ -233,6 +263,33 @@ module _ (settings : List ℕ) (hall : Hall) (flags : Flags) (cycles ticks : ℕ
       held
       no-cause
       (asks (next Fault Retry))
+
+  -- what stays true: the settings stand, the drive stays loaded, and in FAULT it is not armed
+  abbrev Keeps : Drive → Type 0
+  Keeps after = (after .settings ≡ settings) × T (not (is 0 (after .state))) × T (not (is 5 (after .state) && after .armed))
+
+  keeps-move :
+      (state : State) (move : Move)
+      → T (not (is 0 state))
+      → T (not (is 5 state && armed))
+      → Allowed (at state) t (high settings t) (blocked state) (tripped state) (low settings t) state move
+      → Keeps (next state move)
+  keeps-move state Stay loaded fault (stays no-low no-trip) = (refl, loaded, stays-unarmed (is 5 state) armed (low settings t) fault)
+  keeps-move state (Enter Fault) loaded fault (trips free) = (refl, tt, disarmed (armed || low settings t && not (is 5 state)))
+  keeps-move state (Enter Stop) loaded fault (stops turns-on no-trip) = (refl, tt, tt)
+  keeps-move Stop (Enter OffsetCal) loaded fault (calibrates no-trip) = (refl, tt, tt)
+  keeps-move Stop (Enter BtsCharge) loaded fault (starts is-armed is-high no-trip) = (refl, tt, tt)
+  keeps-move state (Enter after) loaded fault (runs turns-on on-run no-low no-trip) =
+      (refl, run-loaded after on-run, run-unarmed after on-run ((armed || low settings t && not (is 5 state)) && not (is 3 after || is 5 after)))
+  keeps-move OffsetCal Measure loaded fault (measures no-trip) = (refl, tt, tt)
+  keeps-move Fault Clear loaded fault (clears no-cause clear) = (refl, tt, tt)
+  keeps-move Fault Retry loaded fault (retries no-cause held room) = (refl, tt, tt)
+
+  pub tick-keeps : (state : State) → T (not (is 0 state)) → T (not (is 5 state && armed)) → Keeps (ticked (at state) t)
+  unfolding ticked moveOf
+  tick-keeps state loaded fault =
+      keeps-move state (moveAt (at state) t (high settings t) (blocked state) state (tripped state) (low settings t)) loaded fault
+      (allowed (at state) t (high settings t) (blocked state) state (tripped state) (low settings t))
 
   -- the tick itself
   pub tick-obeys :

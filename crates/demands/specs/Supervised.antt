@@ -50,7 +50,7 @@ causeOf d (ticks fields) = alight d (standing d fields)
 abbrev pub turns : Drive → Bool
 turns d = eqb (gate (d .state) (alive d)) 1 || eqb (gate (d .state) (alive d)) 2
 
-unfoldable pub supervisor : Supervisor
+abbrev pub supervisor : Supervisor
 supervisor =
     record {
       State = Drive;
