@@ -4,3 +4,4 @@ pub mod Allowed
 pub mod Steps
 pub mod Ticks
 pub mod Lawful
+pub mod Bench

@@ -1,1 +1,2 @@
 pub mod Supervised
+pub mod Bench

@@ -1,0 +1,148 @@
+-- Document 01, "Bench cases (P: to be proved)": P1 to P10 as one table of tests on the definitions.
+use Prim.Native.Nat.{ℕ, zero, suc, _^_, _-_}
+use mathlib.Core.Bool.{Bool, true, false, not, _&&_}
+use mathlib.Core.List.{List, [], _∷_}
+use lib.Dec.{eqb}
+use lib.IntN.{ℤ, pos, negsuc, negℤ}
+use Rattle.hall.specs.Sample.{sampled, poweredUp}
+use Rattle.hall.specs.declared.Hall.{Hall}
+use Rattle.hall.specs.declared.Sampled.{Sampled}
+use Rattle.hall.specs.declared.fate.Fate.the-variants.{Dead}
+use Rattle.drive.specs.State.{is}
+use Rattle.drive.specs.Flags.{none}
+use Rattle.drive.specs.Reference.{times2048, target1, toward}
+use Rattle.drive.specs.Answer.{gate, reported}
+use Rattle.drive.specs.Calls.{fresh, load, cycle, tick, standing}
+use Rattle.drive.specs.Sequence.{Call, cycles, ticks, reply}
+use Rattle.drive.specs.declared.Drive.{Drive}
+use Rattle.drive.specs.declared.Cycle.{Cycle}
+use Rattle.drive.specs.declared.Tick.{Tick}
+use Rattle.drive.specs.declared.flags.Flags.{Flags}
+use Rattle.drive.specs.declared.state.State.the-variants.{Stop, MotorRun}
+
+-- two integers are the same
+abbrev pub same : ℤ → ℤ → Bool
+same (pos a) (pos b) = eqb a b
+same (pos a) (negsuc b) = false
+same (negsuc a) (pos b) = false
+same (negsuc a) (negsuc b) = eqb a b
+
+-- samples one after the other, from power-up; what is left is the last sample
+unfoldable pub patterns : ℤ → Hall → List ℕ → Sampled
+patterns offset hall [] = record { hall = hall; fate = Dead; flagged = false }
+patterns offset hall (p ∷ []) = sampled hall p offset
+patterns offset hall (p ∷ q ∷ rest) = patterns offset (sampled hall p offset .hall) (q ∷ rest)
+
+abbrev pub fed : List ℕ → Sampled
+fed ps = patterns (pos 0) poweredUp ps
+
+-- the settings of the paper's example
+abbrev pub settings : List ℕ
+settings =
+    0 ∷ 65535 ∷ 3000 ∷ 1000 ∷ 3500 ∷ 3500 ∷ 100 ∷ 800 ∷ 100 ∷ 0 ∷ 600 ∷ 64 ∷
+    4095 ∷ 7 ∷ 3 ∷ 0 ∷ 300 ∷ 0 ∷ 0 ∷ 0 ∷ 400 ∷ 300 ∷ 4096 ∷ 2 ∷ []
+
+-- the tick of the paper's example, with its command, control and VdcFilt
+abbrev pub quiet : ℕ → ℕ → ℕ → Tick
+quiet command control filtered =
+    record {
+      kill = 0;
+      clear = 0;
+      command = command;
+      control = control;
+      raw = 2623;
+      filtered = filtered;
+      temperature = 1000;
+      flux = 2048;
+      torque = pos 0;
+      speed = pos 0;
+      target = pos 0
+    }
+
+abbrev pub sample : Cycle
+sample = record { pattern = 1; first = 0; second = 0 }
+
+-- the calls one after the other; here the first of the list is the first call
+unfoldable pub after : Drive → List Call → Drive
+after d [] = d
+after d (call ∷ calls) = after (reply d call .drive) calls
+
+-- a drive in STOP with these settings, its offsets measured, and armed
+abbrev pub ready : List ℕ → Drive
+ready s =
+    record {
+      state = Stop;
+      settings = s;
+      hall = poweredUp;
+      flags = none;
+      cycles = 0;
+      ticks = 0;
+      offsets = record { measured = true; value = record { first = 0; second = 0 }; sum = record { first = 0; second = 0 } };
+      run = fresh Stop s .run;
+      armed = true;
+      retries = 0
+    }
+
+abbrev pub killed : Bool → Bool → Flags
+killed kill critical =
+    record {
+      kill = kill;
+      critical = critical;
+      over = false;
+      under = false;
+      flux = false;
+      heat = false;
+      lock = false;
+      timeout = false;
+      hall = false
+    }
+
+-- the start's tick, three cycles, and n ticks more, all with command 1
+abbrev pub more : ℕ → List Call
+more zero = []
+more (suc n) = ticks (quiet 1 0 2623) ∷ more n
+
+abbrev pub sixTicks : ℕ → List Call
+sixTicks n = ticks (quiet 1 0 2623) ∷ cycles sample ∷ cycles sample ∷ cycles sample ∷ more n
+
+unfoldable pub ramps : ℕ → ℤ → ℤ
+ramps zero reference = reference
+ramps (suc n) reference = ramps n (toward 64 (times2048 (pos 700)) reference)
+
+-- a case of the bench: its number, and its test
+pub record Case : Type 0 where
+  pub number : ℕ
+  pub holds : Bool
+
+abbrev pub case : ℕ → Bool → Case
+case number holds = record { number = number; holds = holds }
+
+unfoldable pub bench : List Case
+bench =
+    -- "P1 patterns 1, 3, 2, 3: position 1, angle 10922."
+    case 1 (eqb (fed (1 ∷ 3 ∷ 2 ∷ 3 ∷ []) .hall .position) 1 && same (fed (1 ∷ 3 ∷ 2 ∷ 3 ∷ []) .hall .angle) (pos 10922))
+    -- "P2 from 0, patterns 3, 1: FFFFFFFF."
+    ∷ case 2 (eqb (fed (3 ∷ 1 ∷ []) .hall .position) 0xFFFFFFFF)
+    -- "P3 patterns 1, 6, 6, 6: flag 15; a fourth 6 is kept, angle 27306."
+    ∷ case 3 (fed (1 ∷ 6 ∷ 6 ∷ 6 ∷ []) .flagged && same (fed (1 ∷ 6 ∷ 6 ∷ 6 ∷ 6 ∷ []) .hall .angle) (pos 27306))
+    -- "P4 1, 0, 1, 0: no flag; 1, 0, 0: flag."
+    ∷ case 4
+      (not (fed (1 ∷ 0 ∷ []) .flagged) && not (fed (1 ∷ 0 ∷ 1 ∷ []) .flagged) && not (fed (1 ∷ 0 ∷ 1 ∷ 0 ∷ []) .flagged)
+      && fed (1 ∷ 0 ∷ 0 ∷ []) .flagged)
+    -- "P5 boundary -32768 with offset -1: 32767."
+    ∷ case 5 (same (patterns (negℤ (pos 1)) poweredUp (6 ∷ 4 ∷ []) .hall .angle) (pos 32767))
+    -- "P6 bits 0 and 1 live: gate 0; bit 1 alone: 3."
+    ∷ case 6 (eqb (gate MotorRun (killed true true)) 0 && eqb (gate MotorRun (killed false true)) 3)
+    -- "P7 VdcFilt equal to VdcOvLevel: no flag."
+    ∷ case 7 (not (standing (fresh Stop settings) (quiet 0 0 3000) .over) && standing (fresh Stop settings) (quiet 0 0 3001) .over)
+    -- "P8 reference 600, target 700, rate 64: 601 after 32 ticks."
+    ∷ case 8 (same (reported (ramps 32 (times2048 (pos 600)))) (pos 601) && same (reported (ramps 31 (times2048 (pos 600)))) (pos 600))
+    -- "P9 control 1424, CmdStart 400, gain 4096, MinSpd 600: target 1624."
+    ∷ case 9 (eqb (target1 600 400 4096 1424) 1624)
+    -- "P10 the settings above, offsets measured, armed: with command held at 1, three cycles between the first tick and the second, and
+    -- no flag, MOTORRUN at the sixth tick, the start being the first."
+    ∷ case 10
+      (is 3 (after (ready settings) (ticks (quiet 1 0 2623) ∷ []) .state)
+      && is 8 (after (ready settings) (sixTicks 4) .state)
+      && is 4 (after (ready settings) (sixTicks 5) .state))
+    ∷ []
