@@ -4,4 +4,6 @@ pub mod Allowed
 pub mod Steps
 pub mod Ticks
 pub mod Lawful
+pub mod Computes
 pub mod Bench
+pub mod Silence

@@ -56,7 +56,7 @@ quiet command control filtered =
       flux = 2048;
       torque = pos 0;
       speed = pos 0;
-      target = pos 0
+      target = pos 0;
     }
 
 abbrev pub sample : Cycle
@@ -80,7 +80,7 @@ ready s =
       offsets = record { measured = true; value = record { first = 0; second = 0 }; sum = record { first = 0; second = 0 } };
       run = fresh Stop s .run;
       armed = true;
-      retries = 0
+      retries = 0;
     }
 
 abbrev pub killed : Bool → Bool → Flags
@@ -94,7 +94,7 @@ killed kill critical =
       heat = false;
       lock = false;
       timeout = false;
-      hall = false
+      hall = false;
     }
 
 -- the start's tick, three cycles, and n ticks more, all with command 1
@@ -127,8 +127,8 @@ bench =
     ∷ case 3 (fed (1 ∷ 6 ∷ 6 ∷ 6 ∷ []) .flagged && same (fed (1 ∷ 6 ∷ 6 ∷ 6 ∷ 6 ∷ []) .hall .angle) (pos 27306))
     -- "P4 1, 0, 1, 0: no flag; 1, 0, 0: flag."
     ∷ case 4
-      (not (fed (1 ∷ 0 ∷ []) .flagged) && not (fed (1 ∷ 0 ∷ 1 ∷ []) .flagged) && not (fed (1 ∷ 0 ∷ 1 ∷ 0 ∷ []) .flagged)
-      && fed (1 ∷ 0 ∷ 0 ∷ []) .flagged)
+    (not (fed (1 ∷ 0 ∷ []) .flagged) && not (fed (1 ∷ 0 ∷ 1 ∷ []) .flagged) && not (fed (1 ∷ 0 ∷ 1 ∷ 0 ∷ []) .flagged)
+    && fed (1 ∷ 0 ∷ 0 ∷ []) .flagged)
     -- "P5 boundary -32768 with offset -1: 32767."
     ∷ case 5 (same (patterns (negℤ (pos 1)) poweredUp (6 ∷ 4 ∷ []) .hall .angle) (pos 32767))
     -- "P6 bits 0 and 1 live: gate 0; bit 1 alone: 3."
@@ -142,7 +142,7 @@ bench =
     -- "P10 the settings above, offsets measured, armed: with command held at 1, three cycles between the first tick and the second, and
     -- no flag, MOTORRUN at the sixth tick, the start being the first."
     ∷ case 10
-      (is 3 (after (ready settings) (ticks (quiet 1 0 2623) ∷ []) .state)
-      && is 8 (after (ready settings) (sixTicks 4) .state)
-      && is 4 (after (ready settings) (sixTicks 5) .state))
+    (is 3 (after (ready settings) (ticks (quiet 1 0 2623) ∷ []) .state)
+    && is 8 (after (ready settings) (sixTicks 4) .state)
+    && is 4 (after (ready settings) (sixTicks 5) .state))
     ∷ []

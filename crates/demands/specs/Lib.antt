@@ -1,2 +1,3 @@
 pub mod Supervised
 pub mod Bench
+pub mod Silence

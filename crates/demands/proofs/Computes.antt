@@ -1,0 +1,15 @@
+-- To unfold `computes` is to unfold every definition of the drive, so that a call on written-out values computes.
+use Rattle.hall.specs.Fate
+use Rattle.hall.specs.Angle
+use Rattle.hall.specs.Sample
+use Rattle.drive.specs.Reference
+use Rattle.drive.specs.Answer
+use Rattle.drive.specs.Causes
+use Rattle.drive.specs.Run
+use Rattle.drive.specs.Moves
+use Rattle.drive.specs.Refusals
+use Rattle.drive.specs.Calls
+
+unfoldable pub computes : Unit {0}
+unfolding Fate.fate Fate.beside Angle.twelfth Angle.sectorOf Angle.withOffset Sample.sampled Sample.deadSample Sample.straySample Reference.toward Reference.target0 Reference.targetOf Answer.answer Causes.causes Run.watched Moves.moveOf Refusals.settingRows Calls.load Calls.cycle Calls.tick Calls.cycled Calls.ticked
+computes = tt
