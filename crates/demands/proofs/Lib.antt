@@ -4,6 +4,8 @@ pub mod Allowed
 pub mod Steps
 pub mod Ticks
 pub mod Lawful
+pub mod Clauses
+pub mod Refused
 pub mod Computes
 pub mod Bench
 pub mod Silence
