@@ -33,7 +33,7 @@ pub refused-unchanged :
     (d : Drive) (call : Call)
     → (verdict (rows d call) .number ≡ 0 → ⊥)
     → reply d call
-      ≡ record { drive = d; answer = answer (verdict (rows d call) .number) (verdict (rows d call) .place) d }
+    ≡ record { drive = d; answer = answer (verdict (rows d call) .number) (verdict (rows d call) .place) d }
 unfolding Calls.load Calls.cycle Calls.tick
 refused-unchanged d (loads numbers) given = refusal (verdict (loadRows d numbers)) _ d given
 refused-unchanged d (cycles fields) given = refusal (verdict (cycleRows d fields)) _ d given

@@ -46,7 +46,8 @@ fn reported(reference: i32) -> i16
     numbers::limited(reference / 2048)
 }
 
-fn answered(drive: Drive, number: u8, place: u8) -> Answer
+// What the state shows under a number and a place: for a caller that refuses without a call.
+pub fn answered(drive: Drive, number: u8, place: u8) -> Answer
     ensures { λ r. ⌜ r ≡ answer number place drive ⌝ }
 {
     let settings = drive.settings;

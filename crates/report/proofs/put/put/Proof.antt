@@ -1,0 +1,47 @@
+-- `put` has copied i bytes at the head of its loop, and a turn copies the next.
+use Prim.Native.Nat.{_≤_, _-_}
+use mathlib.Core.Path.{_≡_}
+use lib.ListN.{length, take, length-set}
+use lib.Seq.{sets, take-all}
+use borrow.Author.Needs.{needs}
+use Rattle.report.proofs.Runs.{one-more}
+use Rattle.report.proofs.put.put.Statement.{statement}
+use Rattle.report.proofs.put.put.Tie as tie
+
+abbrev Inv-loop : tie.InvT-loop
+Inv-loop lent₀ at bytes i₀ lent i =
+    (i ≤ length bytes) × (length lent ≡ length lent₀) × (lent ≡ sets lent₀ at (take i bytes))
+
+abbrev μ-loop : tie.MeasureT-loop
+μ-loop lent₀ at bytes i₀ lent i = length bytes - i
+
+loop-again : tie.Need-loop-again Inv-loop μ-loop
+loop-again c =
+    let head = c .before .before in (
+      search needs,
+      simp length-set (head .loop .inv .1),
+      rw (head .loop .inv .2)
+          (one-more (head .before .args .lent .now) (head .before .args .bytes .now) (head .before .args .at) (head .loop .i)
+          (search needs)),
+    )
+
+returns : tie.Need-returns Inv-loop μ-loop
+returns c =
+    let head = c .before in
+    rw (head .loop .inv .2, take-all (head .loop .i) (head .before .args .bytes .now) (c .loop-test .left))
+
+pub put-spec : {M : Type 1} → statement M
+put-spec =
+    tie.close
+    (tie.spec
+    Inv-loop
+    μ-loop
+    (λ c. search needs)
+    (λ c. search needs)
+    (λ c. search needs)
+    (λ c. search needs)
+    (λ c. search needs)
+    (λ c. search needs)
+    loop-again
+    (λ c. search needs)
+    returns)

@@ -1,0 +1,51 @@
+-- Document 01, "Report line and program": the line of an answer, and what the call leaves in the lent bytes.
+use Prim.Native.Nat.{ℕ}
+use Prim.Native.String.{String}
+use mathlib.Core.List.{List, [], _∷_, _++_}
+use lib.ListN.{length, getD, drop}
+use Rattle.numbers.specs.Choose.{pick}
+use Rattle.drive.specs.declared.answer.Answer.{Answer}
+use Rattle.report.specs.Text.{text, padded, digits, signed}
+use Rattle.report.specs.Refusals.{lineLength, accepts}
+
+-- the states by their numbers, 0 to 9
+abbrev pub names : List String
+names =
+    "IDLE"
+    ∷ "STOP"
+    ∷ "OFFSETCAL"
+    ∷ "BTSCHARGE"
+    ∷ "MOTORRUN"
+    ∷ "FAULT"
+    ∷ "CATCHSPIN"
+    ∷ "PARKING"
+    ∷ "OPENLOOP"
+    ∷ "ANGLESENSING"
+    ∷ []
+
+-- "name of the state, padded with full stops to twelve"
+abbrev pub name : ℕ → List ℕ
+name state = padded 12 (text (getD names state ""))
+
+-- "number, one hex digit; space; name of the state, ..; space; gate; space; live word, 4 hex; space; speed reference, sign and
+-- 5 digits; space; position, 8 hex; space; angle, sign and 5 digits; line feed"
+unfoldable pub line : Answer → List ℕ
+line answer =
+    digits 16 1 (answer .number)
+    ++ text " "
+    ++ name (answer .state)
+    ++ text " "
+    ++ digits 10 1 (answer .gate)
+    ++ text " "
+    ++ digits 16 4 (answer .live)
+    ++ text " "
+    ++ signed (answer .reference)
+    ++ text " "
+    ++ digits 16 8 (answer .position)
+    ++ text " "
+    ++ signed (answer .angle)
+    ++ text "\n"
+
+-- "lent bytes after them unchanged"; "A refusal changes .. no lent byte"
+abbrev pub written : Answer → List ℕ → List ℕ
+written answer lent = pick (accepts answer (length lent)) (line answer ++ drop lineLength lent) lent

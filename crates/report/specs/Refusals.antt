@@ -1,0 +1,30 @@
+-- Document 01, "What the supervisor covers": the rows of the table of refusals that the line call can give.
+use Prim.Native.Nat.{ℕ}
+use mathlib.Core.Bool.{Bool}
+use mathlib.Core.List.{List, [], _∷_}
+use lib.Dec.{eqb, ltb}
+use Rattle.drive.specs.Refusals.{Row, row, verdict}
+use Rattle.drive.specs.declared.answer.Answer.{Answer}
+use Rattle.report.specs.declared.Told.{Told}
+
+-- "45 bytes"
+abbrev pub lineLength : ℕ
+lineLength = 45
+
+-- "fewer than 45 lent bytes for a line"; "answer to print has number above 15, state above 9 or gate above 3 | 1, 2 or 3, the first"
+abbrev pub lineRows : Answer → ℕ → List Row
+lineRows answer lent =
+    row 5 0 (ltb lent lineLength)
+    ∷ row 5 1 (ltb 15 (answer .number))
+    ∷ row 5 2 (ltb 9 (answer .state))
+    ∷ row 5 3 (ltb 3 (answer .gate))
+    ∷ []
+
+-- "The line call answers number and place only."
+abbrev pub told : Answer → ℕ → Told
+told answer lent =
+    record { number = verdict (lineRows answer lent) .number; place = verdict (lineRows answer lent) .place }
+
+-- "0 | accepted"
+abbrev pub accepts : Answer → ℕ → Bool
+accepts answer lent = eqb (verdict (lineRows answer lent) .number) 0

@@ -1,0 +1,36 @@
+-- Texts as bytes, and numbers as texts.
+use Prim.Native.Nat.{ℕ, zero, suc, _/_, _%_}
+use Prim.Native.Char.{code}
+use Prim.Native.String.{String}
+use Prim.Native.String.{[] as none, _∷_ as then}
+use mathlib.Core.List.{List, [], _∷_, _++_}
+use lib.IntN.{ℤ, pos, natAbs}
+use lib.ListN.{getD, take, replicate}
+use lib.Signed.{ltZ}
+use Rattle.numbers.specs.Choose.{pick}
+
+-- the bytes of a text, in ASCII
+abbrev pub text : String → List ℕ
+text none = []
+text (then c s) = code c ∷ text s
+
+-- "padded with full stops to twelve": full stops follow, up to the width
+abbrev pub padded : ℕ → List ℕ → List ℕ
+padded width bytes = take width (bytes ++ replicate width (code "."))
+
+-- "Hex is upper case"; below ten a digit is the same in both bases
+abbrev pub digit : ℕ → ℕ
+digit value = getD (text "0123456789ABCDEF") value 0
+
+-- the last `width` digits of n in a base, the most significant first: the last is the remainder, those before it the quotient's
+unfoldable pub digits : ℕ → ℕ → ℕ → List ℕ
+digits base zero n = []
+digits base (suc width) n = digits base width (n / base) ++ (digit (n % base) ∷ [])
+
+-- "zero has a plus"
+abbrev pub sign : ℤ → ℕ
+sign z = pick (ltZ z (pos 0)) (code "-") (code "+")
+
+-- "sign and 5 digits"
+unfoldable pub signed : ℤ → List ℕ
+signed z = sign z ∷ digits 10 5 (natAbs z)

@@ -1,0 +1,79 @@
+// Writers of one field each: they put its bytes into a lent buffer from a place on, and touch no other byte.
+ghost use mathlib.Core.Path.{_≡_};
+ghost use Prim.Native.Nat.{_+_, _≤_, _<_};
+ghost use lib.ListN.{length};
+ghost use lib.Seq.{sets};
+ghost use Rattle.report.specs.Text.{digit, digits, sign, signed};
+ghost use Rattle.report.specs.Line.{name};
+
+// Copies `bytes` into `lent` from `at` on.
+fn put(lent: &mut [u8], at: usize, bytes: &[u8])
+    requires { ⌜ at + length (now bytes) ≤ length (now lent) ⌝ }
+    ensures { λ _. ⌜ now (lent .exit) ≡ sets (now (lent .entry)) at (now (bytes .entry)) ⌝ }
+{
+    let mut i = 0;
+    while i < bytes.len() {
+        lent[at + i] = bytes[i];
+        i += 1;
+    }
+}
+
+fn digit(value: u32) -> u8
+    requires { ⌜ value < 16 ⌝ }
+    ensures { λ r. ⌜ r ≡ digit value ⌝ }
+{
+    let digits = b"0123456789ABCDEF";
+    digits[value as usize]
+}
+
+// The last `width` digits of a number. They come from the right, so they are collected before they are copied.
+pub(crate) fn put_digits(lent: &mut [u8], at: usize, number: u32, base: u32, width: usize)
+    requires { ⌜ (0 < base) × (base ≤ 16) ⌝ }
+    requires { ⌜ (width ≤ 8) × (at + width ≤ length (now lent)) ⌝ }
+    ensures { λ _. ⌜ now (lent .exit) ≡ sets (now (lent .entry)) at (digits base width number) ⌝ }
+{
+    let mut scratch = [0u8; 8];
+    let mut rest = number;
+    let mut left = width;
+    while 0 < left {
+        left -= 1;
+        scratch[left] = digit(rest % base);
+        rest /= base;
+    }
+    put(lent, at, &scratch[..width]);
+}
+
+fn sign(number: i16) -> u8
+    ensures { λ r. ⌜ r ≡ sign number ⌝ }
+{
+    if number < 0 { b'-' } else { b'+' }
+}
+
+// A sign and five digits.
+pub(crate) fn put_signed(lent: &mut [u8], at: usize, number: i16)
+    requires { ⌜ at + 6 ≤ length (now lent) ⌝ }
+    ensures { λ _. ⌜ now (lent .exit) ≡ sets (now (lent .entry)) at (signed number) ⌝ }
+{
+    lent[at] = sign(number);
+    put_digits(lent, at + 1, numbers::absolute(number) as u32, 10, 5);
+}
+
+// The name of a state, padded with full stops to twelve.
+pub(crate) fn put_name(lent: &mut [u8], at: usize, state: u8)
+    requires { ⌜ state ≤ 9 ⌝ }
+    requires { ⌜ at + 12 ≤ length (now lent) ⌝ }
+    ensures { λ _. ⌜ now (lent .exit) ≡ sets (now (lent .entry)) at (name state) ⌝ }
+{
+    match state {
+        0 => put(lent, at, b"IDLE........"),
+        1 => put(lent, at, b"STOP........"),
+        2 => put(lent, at, b"OFFSETCAL..."),
+        3 => put(lent, at, b"BTSCHARGE..."),
+        4 => put(lent, at, b"MOTORRUN...."),
+        5 => put(lent, at, b"FAULT......."),
+        6 => put(lent, at, b"CATCHSPIN..."),
+        7 => put(lent, at, b"PARKING....."),
+        8 => put(lent, at, b"OPENLOOP...."),
+        _ => put(lent, at, b"ANGLESENSING"),
+    }
+}
