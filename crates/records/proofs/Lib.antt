@@ -1,0 +1,6 @@
+pub mod Parts
+pub mod Printed
+pub mod Meaning
+pub mod One
+pub mod Turn
+pub mod Going

@@ -1,0 +1,112 @@
+// One record: the call that it asks for, and the line of its reply.
+use crate::Found;
+use crate::Ran;
+use crate::fields::cycle_of;
+use crate::fields::settings_of;
+use crate::fields::tick_of;
+use crate::read;
+use drive::Drive;
+use drive::answer::Answer;
+use drive::answer::Reply;
+use drive::answer::answered as shown;
+use report::line;
+ghost use mathlib.Core.Path.{_≡_};
+ghost use mathlib.Core.Bool.{false};
+ghost use Prim.Native.Nat.{_+_, _≤_};
+ghost use lib.ListN.{length, drop};
+ghost use Rattle.drive.specs.Calls.{load, cycle, tick};
+ghost use Rattle.report.specs.Line.{written as lineWritten};
+ghost use Rattle.records.specs.Fields.{settingsOf, cycleOf, tickOf};
+ghost use Rattle.records.specs.Run.{rest, refused, runs, told, written};
+
+// How many bytes a line has.
+const LINE_LENGTH: usize = 45;
+
+fn load_at(drive: Drive, input: &[u8], at: usize) -> Reply
+    requires { ⌜ at + 49 ≤ length (now input) ⌝ }
+    ensures { λ r. ⌜ r ≡ load drive (settingsOf (drop at (now (input .entry)))) ⌝ }
+{
+    let numbers = settings_of(&input[at..]);
+    drive.load(&numbers)
+}
+
+fn cycle_at(drive: Drive, input: &[u8], at: usize) -> Reply
+    requires { ⌜ at + 6 ≤ length (now input) ⌝ }
+    ensures { λ r. ⌜ r ≡ cycle drive (cycleOf (drop at (now (input .entry)))) ⌝ }
+{
+    drive.cycle(cycle_of(&input[at..]))
+}
+
+fn tick_at(drive: Drive, input: &[u8], at: usize) -> Reply
+    requires { ⌜ at + 20 ≤ length (now input) ⌝ }
+    ensures { λ r. ⌜ r ≡ tick drive (tickOf (drop at (now (input .entry)))) ⌝ }
+{
+    drive.tick(tick_of(&input[at..]))
+}
+
+// Nothing is taken and nothing written.
+fn resting(drive: Drive) -> Ran
+    ensures { λ r. ⌜ r ≡ told (rest drive) ⌝ }
+{
+    Ran {
+        drive,
+        taken: 0,
+        written: 0,
+        ended: false,
+    }
+}
+
+// A line with number 6 shows the unchanged state.
+fn refusing(drive: Drive, output: &mut [u8]) -> Ran
+    requires { ⌜ 45 ≤ length (now output) ⌝ }
+    ensures { λ r. ⌜ r ≡ told (refused drive) ⌝ }
+    ensures { λ _. ⌜ now (output .exit) ≡ written (refused drive) (now (output .entry)) ⌝ }
+{
+    line(shown(drive, 6, 0), output);
+    Ran {
+        drive,
+        taken: 0,
+        written: LINE_LENGTH,
+        ended: true,
+    }
+}
+
+// The line of a reply, after the record that it answers.
+fn answering(reply: Reply, size: usize, output: &mut [u8]) -> Ran
+    ensures { λ r. ⌜ r ≡ record { drive = reply .drive; taken = size; written = 45; ended = false } ⌝ }
+    ensures { λ _. ⌜ now (output .exit) ≡ lineWritten (reply .answer) (now (output .entry)) ⌝ }
+{
+    let answer = reply.answer;
+    let drive = reply.drive;
+    line(answer, output);
+    Ran {
+        drive,
+        taken: size,
+        written: LINE_LENGTH,
+        ended: false,
+    }
+}
+
+// One record at most: the run with fuel for one.
+pub(crate) fn step(drive: Drive, input: &[u8], at: usize, closed: bool, output: &mut [u8]) -> Ran
+    ensures { λ r. ⌜ r ≡ told (runs 1 closed (length (now (output .entry))) (drop at (now (input .entry))) drive) ⌝ }
+    ensures { λ _. ⌜ now (output .exit) ≡ written (runs 1 closed (length (now (output .entry))) (drop at (now (input .entry))) drive) (now (output .entry)) ⌝ }
+{
+    if output.len() < LINE_LENGTH {
+        return resting(drive);
+    }
+    match read(input, at) {
+        Found::End => resting(drive),
+        Found::Unknown => refusing(drive, output),
+        Found::Short => {
+            if closed {
+                refusing(drive, output)
+            } else {
+                resting(drive)
+            }
+        }
+        Found::Load(next) => answering(load_at(drive, input, at), next - at, output),
+        Found::Cycle(next) => answering(cycle_at(drive, input, at), next - at, output),
+        Found::Tick(next) => answering(tick_at(drive, input, at), next - at, output),
+    }
+}

@@ -1,0 +1,206 @@
+//! The drive state, the load call, the answer and the gates.
+
+use crate::settings::Settings;
+use crate::state::State;
+
+/// Everything that a call can change.  All numbers are wide; the paper's
+/// moduli and limits are applied where the paper names them.
+#[derive(Clone, Debug, PartialEq, Eq)]
+pub struct Drive {
+    pub state: State,
+    pub settings: Settings,
+    /// The sixteen flags, bit n of the number being flag n.
+    pub flags: i64,
+    pub armed: bool,
+    pub retries_used: i64,
+
+    pub kept_pattern: Option<i64>,
+    pub dead_streak: i64,
+    pub stray_streak: i64,
+    /// 0 to 2^32 - 1.
+    pub position: i64,
+    /// -32768 to 32767.
+    pub angle: i64,
+    pub still_count: i64,
+
+    /// Cycles and ticks in the present state.
+    pub cycles_in_state: i64,
+    pub ticks_in_state: i64,
+
+    pub offset_sums: [i64; 2],
+    pub offsets: [i64; 2],
+    pub offsets_measured: bool,
+
+    /// "Speed reference, kept times 2048."
+    pub speed_reference_times_2048: i64,
+
+    /// Flag 4: ticks of the present slot, whether one of them was bad, and
+    /// the consecutive bad slots that ended before it.
+    pub flux_slot_ticks: i64,
+    pub flux_slot_bad: bool,
+    pub flux_bad_slots: i64,
+    /// Flags 7 and 14: consecutive ticks so far.
+    pub rotor_lock_ticks: i64,
+    pub hall_still_ticks: i64,
+}
+
+/// "its answer: number, place, state, gate, live word, speed reference,
+/// position, angle, two offsets, retries used", in the widths of the paper:
+/// "The live word has 16 bits, the position 32; reference and angle are
+/// signed 16-bit."
+#[derive(Clone, Debug, PartialEq, Eq)]
+pub struct Answer {
+    pub number: u8,
+    pub place: u8,
+    pub state: u8,
+    pub gate: u8,
+    pub live_word: u16,
+    pub speed_reference: i16,
+    pub position: u32,
+    pub angle: i16,
+    pub offsets: [u16; 2],
+    pub retries_used: u16,
+}
+
+/// "Each hands the next drive state back beside its answer".
+#[derive(Clone, Debug, PartialEq, Eq)]
+pub struct Reply {
+    pub drive: Drive,
+    pub answer: Answer,
+}
+
+impl Drive {
+    /// "Power-up is IDLE, all zero."
+    pub fn power_up() -> Drive {
+        Drive {
+            state: State::Idle,
+            settings: Settings::default(),
+            flags: 0,
+            armed: false,
+            retries_used: 0,
+            kept_pattern: None,
+            dead_streak: 0,
+            stray_streak: 0,
+            position: 0,
+            angle: 0,
+            still_count: 0,
+            cycles_in_state: 0,
+            ticks_in_state: 0,
+            offset_sums: [0, 0],
+            offsets: [0, 0],
+            offsets_measured: false,
+            speed_reference_times_2048: 0,
+            flux_slot_ticks: 0,
+            flux_slot_bad: false,
+            flux_bad_slots: 0,
+            rotor_lock_ticks: 0,
+            hall_still_ticks: 0,
+        }
+    }
+
+    /// The load call.  "4 before 2": the state is looked at first.
+    pub fn load(&self, numbers: &[u16]) -> Reply {
+        // "load outside IDLE and STOP"
+        if self.state != State::Idle && self.state != State::Stop {
+            return self.refuse(4, 0);
+        }
+        match Settings::read(numbers) {
+            Err(place) => self.refuse(2, place),
+            Ok(settings) => {
+                // "An accepted load gives STOP and clears everything else to
+                // power-up values: flags, position, pattern, offsets and
+                // arming."
+                let mut next = Drive::power_up();
+                next.settings = settings;
+                next.state = State::Stop;
+                next.accept()
+            }
+        }
+    }
+
+    /// "Entering a state zeroes its cycle and tick counts, and in OFFSETCAL
+    /// its sums."
+    pub fn enter(&mut self, state: State) {
+        self.state = state;
+        self.cycles_in_state = 0;
+        self.ticks_in_state = 0;
+        if state == State::OffsetCal {
+            self.offset_sums = [0, 0];
+        }
+        if state == State::MotorRun {
+            // "Bits 4, 7 and 14 count only ticks taken in MOTORRUN, from zero
+            // at each entry."
+            self.flux_slot_ticks = 0;
+            self.flux_slot_bad = false;
+            self.flux_bad_slots = 0;
+            self.rotor_lock_ticks = 0;
+            self.hall_still_ticks = 0;
+        }
+    }
+
+    /// The flags that are live.
+    pub fn live_word(&self) -> i64 {
+        self.flags & self.settings.live_bits()
+    }
+
+    /// "Gates after any call: live bit 0, off (0); else live bit 1, all low
+    /// sides on (3); else any live flag, off; else 3 gives charge (1);
+    /// 4, 6, 7, 8, 9 give drive (2); others off."
+    pub fn gate(&self) -> u8 {
+        let live = self.live_word();
+        if live & 1 != 0 {
+            return 0;
+        }
+        if live & 2 != 0 {
+            return 3;
+        }
+        if live != 0 {
+            return 0;
+        }
+        match self.state.number() {
+            3 => 1,
+            4 | 6 | 7 | 8 | 9 => 2,
+            _ => 0,
+        }
+    }
+
+    /// "Reported divided by 2048, rounded toward zero", which is what the
+    /// division of the language does.
+    pub fn speed_reference(&self) -> i64 {
+        self.speed_reference_times_2048 / 2048
+    }
+
+    /// The answer that shows this drive state.
+    pub fn answer(&self, number: u8, place: u8) -> Answer {
+        Answer {
+            number,
+            place,
+            state: self.state.number(),
+            gate: self.gate(),
+            live_word: self.live_word() as u16,
+            speed_reference: self.speed_reference() as i16,
+            position: self.position as u32,
+            angle: self.angle as i16,
+            offsets: [self.offsets[0] as u16, self.offsets[1] as u16],
+            retries_used: self.retries_used as u16,
+        }
+    }
+
+    /// "accepted": number 0, place 0.
+    pub fn accept(self) -> Reply {
+        let answer = self.answer(0, 0);
+        Reply {
+            drive: self,
+            answer,
+        }
+    }
+
+    /// "A refusal changes no state and no lent byte; its other fields show
+    /// the unchanged state."
+    pub fn refuse(&self, number: u8, place: u8) -> Reply {
+        Reply {
+            drive: self.clone(),
+            answer: self.answer(number, place),
+        }
+    }
+}

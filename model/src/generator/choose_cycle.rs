@@ -1,0 +1,92 @@
+//! The fields of a cycle.
+
+use super::mood::HallMood;
+use super::Generator;
+use crate::cycle::CycleFields;
+use crate::hall::{next_pattern, previous_pattern, CLOCKWISE};
+use crate::record::Record;
+
+/// What a cycle does, seen from the kept pattern.
+#[derive(Clone, Copy, Debug, PartialEq, Eq)]
+pub enum Wish {
+    Next,
+    Previous,
+    Same,
+    Dead,
+    Stray,
+}
+
+impl Generator {
+    /// A cycle as the mood has it.
+    pub(super) fn cycle_record(&mut self) -> Record {
+        let pattern = self.mood_pattern();
+        self.cycle_with(pattern)
+    }
+
+    /// A cycle that does what is wished.
+    pub(super) fn wished_cycle(&mut self, wish: Wish) -> Record {
+        let pattern = self.wished_pattern(wish);
+        self.cycle_with(pattern)
+    }
+
+    fn cycle_with(&mut self, pattern: i64) -> Record {
+        let most = self.mood.most_sample;
+        let samples = [self.random.leaning(0, most), self.random.between(0, most)];
+        Record::Cycle(CycleFields { pattern, samples })
+    }
+
+    /// With no pattern kept, anything but a dead sample is a first pattern.
+    fn wished_pattern(&mut self, wish: Wish) -> i64 {
+        let dead = self.random.pick(&[0, 7]);
+        let Some(kept) = self.drive.kept_pattern else {
+            return match wish {
+                Wish::Dead => dead,
+                _ => self.random.pick(&CLOCKWISE),
+            };
+        };
+        match wish {
+            Wish::Next => next_pattern(kept),
+            Wish::Previous => previous_pattern(kept),
+            Wish::Same => kept,
+            Wish::Dead => dead,
+            Wish::Stray => {
+                let strays: Vec<i64> = CLOCKWISE
+                    .into_iter()
+                    .filter(|&pattern| {
+                        pattern != kept
+                            && pattern != next_pattern(kept)
+                            && pattern != previous_pattern(kept)
+                    })
+                    .collect();
+                self.random.pick(&strays)
+            }
+        }
+    }
+
+    fn mood_pattern(&mut self) -> i64 {
+        let wish = match self.mood.hall {
+            HallMood::Forward => self.wish_by_chances([960, 5, 25, 5]),
+            HallMood::Backward => self.wish_by_chances([5, 960, 25, 5]),
+            HallMood::Rest => self.wish_by_chances([0, 0, 998, 1]),
+            HallMood::Wander => self.wish_by_chances([400, 400, 190, 5]),
+            HallMood::Noisy => self.wish_by_chances([120, 120, 160, 300]),
+            HallMood::Any => return self.random.between(0, 7),
+            HallMood::Dead => Wish::Dead,
+        };
+        self.wished_pattern(wish)
+    }
+
+    /// Chances of next, previous, same and dead; the rest of the thousand is
+    /// stray.
+    fn wish_by_chances(&mut self, chances: [i64; 4]) -> Wish {
+        let wishes = [Wish::Next, Wish::Previous, Wish::Same, Wish::Dead];
+        let mut drawn = self.random.between(0, 999);
+        for (wish, chance) in wishes.into_iter().zip(chances) {
+            if drawn < chance {
+                return wish;
+            }
+            drawn -= chance;
+        }
+        Wish::Stray
+    }
+}

@@ -1,0 +1,43 @@
+//! An independent model of the drive supervisor that document 01 defines.
+//!
+//! It was written from document 01 (with the readings of `readings.md`) and
+//! from nothing else, so that it can be compared, record for record, with a
+//! program made by others.  It aims at being easy to check against the paper:
+//! wide integers, no sharing of work between rules, one function per rule.
+//!
+//! The parts of the supervisor:
+//! * `settings`  the 24 settings and their rules,
+//! * `state`     the ten states,
+//! * `drive`     the drive state, load, the answer, the gates,
+//! * `cycle`     the cycle call,
+//! * `hall`      Hall groups and angles,
+//! * `tick`      the tick call: command, move, speed reference,
+//! * `causes`    the causes that set flags,
+//! * `line`      the report line call,
+//! * `record`    records of the program,
+//! * `program`   the program itself.
+//!
+//! The rest is for the comparison: `random` and `generator` make streams,
+//! `reached` counts what a stream reaches.
+
+pub mod causes;
+pub mod cycle;
+pub mod drive;
+pub mod generator;
+pub mod hall;
+pub mod line;
+pub mod program;
+pub mod random;
+pub mod reached;
+pub mod record;
+pub mod settings;
+pub mod state;
+pub mod tick;
+
+pub use cycle::CycleFields;
+pub use drive::{Answer, Drive, Reply};
+pub use line::report_line;
+pub use record::Record;
+pub use settings::Settings;
+pub use state::State;
+pub use tick::TickFields;

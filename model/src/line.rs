@@ -1,0 +1,55 @@
+//! The report line call.
+
+use crate::drive::Answer;
+use crate::state::NAMES;
+
+pub const LINE_LENGTH: usize = 45;
+
+/// Writes the line of an answer into lent bytes; gives number and place.
+///
+/// "The line call answers number and place only."  "of two rows with one
+/// number, the upper first": few lent bytes before a bad answer.
+pub fn report_line(answer: &Answer, lent: &mut [u8]) -> (u8, u8) {
+    // "fewer than 45 lent bytes for a line"
+    if lent.len() < LINE_LENGTH {
+        return (5, 0);
+    }
+    // "answer to print has number above 15, state above 9 or gate above 3":
+    // "1, 2 or 3, the first"
+    if answer.number > 15 {
+        return (5, 1);
+    }
+    if answer.state > 9 {
+        return (5, 2);
+    }
+    if answer.gate > 3 {
+        return (5, 3);
+    }
+    let line = line_text(answer);
+    // "45 bytes, lent bytes after them unchanged"
+    lent[..LINE_LENGTH].copy_from_slice(line.as_bytes());
+    (0, 0)
+}
+
+/// "number, one hex digit; space; name of the state, padded with full stops
+/// to twelve; space; gate; space; live word, 4 hex; space; speed reference,
+/// sign and 5 digits; space; position, 8 hex; space; angle, sign and 5
+/// digits; line feed. Hex is upper case; zero has a plus."
+fn line_text(answer: &Answer) -> String {
+    format!(
+        "{:X} {:.<12} {} {:04X} {} {:08X} {}\n",
+        answer.number,
+        NAMES[answer.state as usize],
+        answer.gate,
+        answer.live_word,
+        sign_and_five_digits(answer.speed_reference),
+        answer.position,
+        sign_and_five_digits(answer.angle),
+    )
+}
+
+fn sign_and_five_digits(value: i16) -> String {
+    let wide = value as i64;
+    let sign = if wide < 0 { '-' } else { '+' };
+    format!("{}{:05}", sign, wide.abs())
+}

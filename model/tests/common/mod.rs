@@ -1,0 +1,154 @@
+//! Drives and fields that the tests start from.
+#![allow(dead_code)] // every test file uses its own part of this one
+
+use model::{Answer, CycleFields, Drive, Reply, State, TickFields};
+
+/// The settings of the example of document 01.
+pub const EXAMPLE: [u16; 24] = [
+    0, 65535, 3000, 1000, 3500, 3500, 100, 800, 100, 0, 600, 64, 4095, 7, 3, 0, 300, 0, 0, 0, 400,
+    300, 4096, 2,
+];
+
+/// The example's settings with some changed: place from 1, and value.
+pub fn settings_with(changes: &[(usize, u16)]) -> [u16; 24] {
+    let mut settings = EXAMPLE;
+    for &(place, value) in changes {
+        settings[place - 1] = value;
+    }
+    settings
+}
+
+/// A drive after an accepted load.
+pub fn loaded(changes: &[(usize, u16)]) -> Drive {
+    let reply = Drive::power_up().load(&settings_with(changes));
+    assert_eq!((reply.answer.number, reply.answer.place), (0, 0));
+    reply.drive
+}
+
+/// "T 0,0,0,0,2623,2623,1000,2048,0,0,0", a low in both modes.
+pub fn low() -> TickFields {
+    TickFields {
+        gate_kill: 0,
+        clear: 0,
+        command: 0,
+        control: 0,
+        vdc_raw: 2623,
+        vdc_filt: 2623,
+        temperature: 1000,
+        flx_m: 2048,
+        trq_ref: 0,
+        speed: 0,
+        target: 0,
+    }
+}
+
+/// The same with a high in both modes.
+pub fn high() -> TickFields {
+    TickFields {
+        command: 1,
+        control: 4095,
+        ..low()
+    }
+}
+
+/// A clear with a high.
+pub fn clear() -> TickFields {
+    TickFields { clear: 1, ..high() }
+}
+
+/// A gate kill with a high.
+pub fn kill() -> TickFields {
+    TickFields {
+        gate_kill: 1,
+        ..high()
+    }
+}
+
+pub fn cycle(drive: &Drive, pattern: i64) -> Drive {
+    accepted(drive.cycle(&CycleFields {
+        pattern,
+        samples: [0, 0],
+    }))
+}
+
+pub fn patterns(drive: &Drive, patterns: &[i64]) -> Drive {
+    let mut drive = drive.clone();
+    for &pattern in patterns {
+        drive = cycle(&drive, pattern);
+    }
+    drive
+}
+
+pub fn cycles(drive: &Drive, pattern: i64, count: i64) -> Drive {
+    let mut drive = drive.clone();
+    for _ in 0..count {
+        drive = cycle(&drive, pattern);
+    }
+    drive
+}
+
+pub fn tick(drive: &Drive, fields: &TickFields) -> Drive {
+    accepted(drive.tick(fields))
+}
+
+pub fn ticks(drive: &Drive, fields: &TickFields, count: i64) -> Drive {
+    let mut drive = drive.clone();
+    for _ in 0..count {
+        drive = tick(&drive, fields);
+    }
+    drive
+}
+
+pub fn accepted(reply: Reply) -> Drive {
+    assert_eq!((reply.answer.number, reply.answer.place), (0, 0));
+    reply.drive
+}
+
+/// The answer that shows a drive.
+pub fn shown(drive: &Drive) -> Answer {
+    drive.answer(0, 0)
+}
+
+/// STOP with offsets measured, no low given since the load.
+pub fn measured(changes: &[(usize, u16)]) -> Drive {
+    let drive = tick(&loaded(changes), &high());
+    assert_eq!(drive.state, State::OffsetCal);
+    let wanted = drive.settings.offset_cycles();
+    let drive = tick(&cycles(&drive, 1, wanted), &high());
+    assert_eq!(drive.state, State::Stop);
+    drive
+}
+
+/// STOP with offsets measured and armed.
+pub fn armed(changes: &[(usize, u16)]) -> Drive {
+    let drive = tick(&measured(changes), &low());
+    assert!(drive.armed);
+    drive
+}
+
+/// The drive in one of the states 1 to 9; the settings given may not keep it
+/// from getting there with few cycles and ticks.
+pub fn in_state(state: State, changes: &[(usize, u16)]) -> Drive {
+    match state {
+        State::Idle => Drive::power_up(),
+        State::Stop => measured(changes),
+        State::OffsetCal => tick(&loaded(changes), &high()),
+        State::Fault => tick(&measured(changes), &kill()),
+        _ => {
+            let mut drive = armed(changes);
+            for _ in 0..100 {
+                drive = tick(&drive, &high());
+                if drive.state == state {
+                    return drive;
+                }
+                drive = cycles(&drive, 1, 5);
+            }
+            panic!("{} not reached", state.name());
+        }
+    }
+}
+
+/// MOTORRUN just entered, with a speed of 0.
+pub fn running(changes: &[(usize, u16)]) -> Drive {
+    in_state(State::MotorRun, changes)
+}

@@ -1,0 +1,57 @@
+#!/usr/bin/env python3
+"""Document 01's example for the program: its input, made from the paper's numbers, and its output, typed from the paper.
+
+python3 tools/expected/shiftline_example.py crates/shiftline
+
+writes stdin and stdout there."""
+
+import struct
+import sys
+
+SETTINGS = [
+    0, 65535, 3000, 1000, 3500, 3500, 100, 800, 100, 0, 600, 64,
+    4095, 7, 3, 0, 300, 0, 0, 0, 400, 300, 4096, 2,
+]  # fmt: skip
+
+OUTPUT = """\
+3 IDLE........ 0 0000 +00000 00000000 +00000
+0 STOP........ 0 0000 +00000 00000000 +00000
+0 STOP........ 0 0000 +00000 00000000 -05462
+0 STOP........ 0 0000 +00000 00000001 +00000
+0 OFFSETCAL... 0 0000 +00000 00000001 +00000
+0 FAULT....... 0 0004 +00000 00000001 +00000
+"""
+
+
+def load(numbers: list[int]) -> bytes:
+    """L and 24 numbers, two bytes each, high first."""
+    return b"L" + struct.pack(">24H", *numbers)
+
+
+def cycle(pattern: int, first: int, second: int) -> bytes:
+    """C, pattern byte and two numbers."""
+    return b"C" + struct.pack(">B2H", pattern, first, second)
+
+
+def tick(*fields: int) -> bytes:
+    """T, three bytes and eight numbers, the last three signed."""
+    return b"T" + struct.pack(">3B5H3h", *fields)
+
+
+INPUT = b"".join(
+    [
+        cycle(1, 0, 0),
+        load(SETTINGS),
+        cycle(1, 0, 0),
+        cycle(3, 0, 0),
+        tick(0, 0, 0, 0, 2623, 2623, 1000, 2048, 0, 0, 0),
+        tick(0, 0, 0, 0, 2623, 3001, 1000, 2048, 0, 0, 0),
+    ]
+)
+
+if __name__ == "__main__":
+    folder = sys.argv[1]
+    with open(folder + "/stdin", "wb") as file:
+        file.write(INPUT)
+    with open(folder + "/stdout", "w", encoding="ascii") as file:
+        file.write(OUTPUT)
