@@ -13,8 +13,9 @@ use Rattle.drive.specs.declared.answer.Reply.{Reply}
 use Rattle.report.specs.Refusals.{lineLength}
 use Rattle.report.specs.Line.{line, written as lineWritten}
 use Rattle.report.proofs.Fields.{length-line}
-use Rattle.records.specs.Front.{Record, sizeOf, Front, end, unknown, short, whole, front}
-use Rattle.records.specs.Run.{Outcome, reply, onto, rest, refused, runs, told, written}
+use Rattle.drive.specs.Sequence.{Call as Record, reply}
+use Rattle.records.specs.Front.{sizeOf, Front, end, unknown, short, whole, front}
+use Rattle.records.specs.Run.{Outcome, onto, rest, refused, runs, told, written}
 use Rattle.records.specs.declared.Ran.{Ran}
 use Rattle.records.proofs.Printed.{answer-printed, reply-printed}
 

@@ -19,8 +19,7 @@ use Rattle.drive.specs.declared.flags.Flags.{Flags}
 use Rattle.drive.specs.declared.refusals.Verdict.{Verdict}
 use Rattle.report.specs.Refusals.{lineLength, accepts}
 use Rattle.report.proofs.Accepted.{accepted}
-use Rattle.records.specs.Front.{Record, load as aLoad, cycle as aCycle, tick as aTick}
-use Rattle.records.specs.Run.{reply as replyTo}
+use Rattle.drive.specs.Sequence.{Call as Record, loads as aLoad, cycles as aCycle, ticks as aTick, reply as replyTo}
 
 state-small : (s : State) → numberOf s ≤ 9
 state-small Idle = omega arith

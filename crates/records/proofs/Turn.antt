@@ -12,8 +12,9 @@ use Rattle.drive.specs.declared.Drive.{Drive}
 use Rattle.report.specs.Refusals.{lineLength}
 use Rattle.report.proofs.Fields.{length-line}
 use Rattle.records.specs.Fields.{settingsOf, cycleOf, tickOf}
-use Rattle.records.specs.Front.{Record, load, cycle, tick, sizeOf, Front, end, unknown, short, whole, front}
-use Rattle.records.specs.Run.{Outcome, reply, rest, refused, onto, runs}
+use Rattle.drive.specs.Sequence.{Call as Record, loads as load, cycles as cycle, ticks as tick, reply}
+use Rattle.records.specs.Front.{sizeOf, Front, end, unknown, short, whole, front}
+use Rattle.records.specs.Run.{Outcome, rest, refused, onto, runs}
 use Rattle.records.proofs.Meaning.{View, at-end, at-unknown, at-short, at-load, at-cycle, at-tick, view}
 use Rattle.records.proofs.One.{one-whole, at-tight}
 use Rattle.records.proofs.One as one

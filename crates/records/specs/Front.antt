@@ -5,41 +5,34 @@ use mathlib.Core.List.{List, [], _∷_}
 use lib.Dec.{eqb, ltb}
 use lib.ListN.{length}
 use Rattle.numbers.specs.Choose.{pick}
-use Rattle.drive.specs.declared.Cycle.{Cycle}
-use Rattle.drive.specs.declared.Tick.{Tick}
+use Rattle.drive.specs.Sequence.{Call, loads, cycles, ticks}
 use Rattle.records.specs.Fields.{byte, settingsOf, cycleOf, tickOf}
 use Rattle.records.specs.declared.Found.{Found}
 use Rattle.records.specs.declared.Found.the-variants.{End, Unknown, Short, Load as LoadAt, Cycle as CycleAt, Tick as TickAt}
 
--- a whole record, as the call that it asks for
-pub data Record : Type 0 where
-  load : List ℕ → Record
-  cycle : Cycle → Record
-  tick : Tick → Record
-
--- no byte; a byte that begins no record; a record whose last bytes are missing; a whole record
+-- no byte; a byte that begins no record; a record whose last bytes are missing; a whole record, as the call that it asks for
 pub data Front : Type 0 where
   end : Front
   unknown : Front
   short : Front
-  whole : Record → Front
+  whole : Call → Front
 
 -- one letter, and then 24 numbers; a byte and two numbers; three bytes and eight numbers
-abbrev pub sizeOf : Record → ℕ
-sizeOf (load numbers) = 49
-sizeOf (cycle fields) = 6
-sizeOf (tick fields) = 20
+abbrev pub sizeOf : Call → ℕ
+sizeOf (loads numbers) = 49
+sizeOf (cycles fields) = 6
+sizeOf (ticks fields) = 20
 
 -- the record, where so many bytes hold all of it
-abbrev pub held : ℕ → Record → Front
+abbrev pub held : ℕ → Call → Front
 held left r = pick (ltb left (sizeOf r)) short (whole r)
 
 -- "Program shiftline reads records: L ..; C ..; T .."
 abbrev pub begun : ℕ → ℕ → List ℕ → Front
 begun letter left bytes =
-    pick (eqb letter (code "L")) (held left (load (settingsOf bytes)))
-    (pick (eqb letter (code "C")) (held left (cycle (cycleOf bytes)))
-    (pick (eqb letter (code "T")) (held left (tick (tickOf bytes))) unknown))
+    pick (eqb letter (code "L")) (held left (loads (settingsOf bytes)))
+    (pick (eqb letter (code "C")) (held left (cycles (cycleOf bytes)))
+    (pick (eqb letter (code "T")) (held left (ticks (tickOf bytes))) unknown))
 
 unfoldable pub front : List ℕ → Front
 front bytes = pick (eqb (length bytes) 0) end (begun (byte 0 bytes) (length bytes) bytes)
@@ -49,6 +42,6 @@ abbrev pub told : ℕ → Front → Found
 told at end = End
 told at unknown = Unknown
 told at short = Short
-told at (whole (load numbers)) = LoadAt (at + 49)
-told at (whole (cycle fields)) = CycleAt (at + 6)
-told at (whole (tick fields)) = TickAt (at + 20)
+told at (whole (loads numbers)) = LoadAt (at + 49)
+told at (whole (cycles fields)) = CycleAt (at + 6)
+told at (whole (ticks fields)) = TickAt (at + 20)

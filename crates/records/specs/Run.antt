@@ -6,12 +6,11 @@ use lib.Dec.{ltb}
 use lib.ListN.{length, drop}
 use Rattle.numbers.specs.Choose.{pick}
 use Rattle.drive.specs.Answer.{answer}
-use Rattle.drive.specs.Calls.{load as loaded, cycle as cycled, tick as ticked}
+use Rattle.drive.specs.Sequence.{Call, reply}
 use Rattle.drive.specs.declared.Drive.{Drive}
-use Rattle.drive.specs.declared.answer.Reply.{Reply}
 use Rattle.report.specs.Refusals.{lineLength}
 use Rattle.report.specs.Line.{line}
-use Rattle.records.specs.Front.{Record, load, cycle, tick, sizeOf, Front, end, unknown, short, whole, front}
+use Rattle.records.specs.Front.{sizeOf, Front, end, unknown, short, whole, front}
 use Rattle.records.specs.declared.Ran.{Ran}
 
 -- what a run comes to: the lines that it writes, the drive that it leaves, how many bytes it takes, and whether a line with number 6
@@ -21,12 +20,6 @@ pub record Outcome : Type 0 where
   pub drive : Drive
   pub taken : ℕ
   pub ended : Bool
-
--- the call that a record asks for
-abbrev pub reply : Drive → Record → Reply
-reply d (load numbers) = loaded d numbers
-reply d (cycle fields) = cycled d fields
-reply d (tick fields) = ticked d fields
 
 -- nothing is taken and nothing written
 abbrev pub rest : Drive → Outcome
@@ -48,7 +41,7 @@ onto lines taken later =
 
 -- "Input that ends between records adds no line." A short record is refused only where the input is closed: more bytes may come.
 -- "One line per record, after it"; and then on with the state that the call left.
-abbrev pub follow : Bool → Drive → Front → (Record → Outcome) → Outcome
+abbrev pub follow : Bool → Drive → Front → (Call → Outcome) → Outcome
 follow closed d end onward = rest d
 follow closed d unknown onward = refused d
 follow closed d short onward = pick closed (refused d) (rest d)
@@ -60,7 +53,7 @@ runs zero closed room bytes d = rest d
 runs (suc fuel) closed room bytes d =
     pick (ltb room lineLength) (rest d)
     (follow closed d (front bytes)
-    (λ (r : Record). runs fuel closed (room - lineLength) (drop (sizeOf r) bytes) (reply d r .drive)))
+    (λ (r : Call). runs fuel closed (room - lineLength) (drop (sizeOf r) bytes) (reply d r .drive)))
 
 abbrev pub run : Bool → ℕ → List ℕ → Drive → Outcome
 run closed room bytes d = runs (length bytes) closed room bytes d

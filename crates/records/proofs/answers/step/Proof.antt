@@ -12,8 +12,9 @@ use Rattle.drive.specs.declared.answer.Reply.{Reply}
 use Rattle.report.specs.Line.{written as lineWritten}
 use Rattle.report.specs.Refusals.{lineLength}
 use Rattle.records.specs.Fields.{settingsOf, cycleOf, tickOf}
-use Rattle.records.specs.Front.{Record, load, cycle, tick, sizeOf, whole, front}
-use Rattle.records.specs.Run.{Outcome, reply, runs, told, written}
+use Rattle.drive.specs.Sequence.{Call as Record, loads as load, cycles as cycle, ticks as tick, reply}
+use Rattle.records.specs.Front.{sizeOf, whole, front}
+use Rattle.records.specs.Run.{Outcome, runs, told, written}
 use Rattle.records.specs.declared.Ran.{Ran}
 use Rattle.records.specs.declared.Found.the-variants.{End, Unknown, Short, Load as LoadAt, Cycle as CycleAt, Tick as TickAt}
 use Rattle.records.proofs.Meaning.{Meaning, meaning}
