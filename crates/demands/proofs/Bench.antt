@@ -3,12 +3,12 @@ use mathlib.Core.Bool.{Bool, true, _&&_}
 use mathlib.Core.List.{List, [], _∷_}
 use lib.Dec.{T}
 use Rattle.demands.proofs.Computes.{computes}
-use Rattle.demands.specs.Bench.{Case, bench, patterns, after, ramps}
+use Rattle.demands.specs.Bench.{Case, bench, patterns, after}
 
 abbrev pub all-hold : List Case → Bool
 all-hold [] = true
 all-hold (c ∷ cases) = c .holds && all-hold cases
 
 pub bench-holds : T (all-hold bench)
-unfolding bench patterns after ramps computes
+unfolding bench patterns after computes
 bench-holds = tt

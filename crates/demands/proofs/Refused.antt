@@ -1,17 +1,24 @@
--- Demand 1: "Bad input is refused with the number and place in document 01; the drive state .. then stand[s] as before."
+-- Demand 1, and that no cycle and no tick changes a setting: "Bad input is refused with the number and place in document 01; the drive state .. then stand[s] as before."
 use mathlib.Core.Path.{_≡_, refl, sym, ap, _∙_}
 use mathlib.Core.Bool.{Bool, true, false, not}
 use mathlib.Core.List.{List}
 use lib.Dec.{T, eqb}
 use borrow.Author.Tests.{eqb-true}
 use Rattle.numbers.specs.Choose.{pick}
+use Rattle.drive.specs.Answer
 use Rattle.drive.specs.Answer.{answer}
+use Rattle.drive.specs.Causes
 use Rattle.drive.specs.Refusals.{Row, verdict, loadRows, cycleRows, tickRows}
 use Rattle.drive.specs.Calls
 use Rattle.drive.specs.Calls.{settle}
 use Rattle.drive.specs.Sequence.{Call, loads, cycles, ticks, reply}
 use Rattle.drive.specs.declared.Drive.{Drive}
-use Rattle.drive.specs.declared.answer.Answer.{Answer}
+use Rattle.drive.specs.declared.Cycle.{Cycle}
+use Rattle.drive.specs.declared.Tick.{Tick}
+use Rattle.drive.specs.declared.flags.Flags.{Flags}
+use Rattle.drive.specs.declared.run.Watched.{Watched}
+use Rattle.drive.specs.declared.moves.Move.{Move}
+use Rattle.drive.specs.declared.moves.Move.the-variants.{Stay, Enter, Measure, Clear, Retry}
 use Rattle.drive.specs.declared.answer.Reply.{Reply}
 use Rattle.drive.specs.declared.refusals.Verdict.{Verdict}
 
@@ -38,3 +45,30 @@ unfolding Calls.load Calls.cycle Calls.tick
 refused-unchanged d (loads numbers) given = refusal (verdict (loadRows d numbers)) _ d given
 refused-unchanged d (cycles fields) given = refusal (verdict (cycleRows d fields)) _ d given
 refused-unchanged d (ticks fields) given = refusal (verdict (tickRows d fields)) _ d given
+
+-- "The drive state keeps its 24 settings as loaded": no cycle and no tick changes them
+settings-moved :
+    (d : Drive) (t : Tick) (w : Watched) (flags : Flags) (armed : Bool) (move : Move)
+    → Calls.moved d t w flags armed move .settings ≡ d .settings
+settings-moved d t w flags armed Stay = refl
+settings-moved d t w flags armed (Enter state) = refl
+settings-moved d t w flags armed Measure = refl
+settings-moved d t w flags armed Clear = refl
+settings-moved d t w flags armed Retry = refl
+
+settled-settings : (v : Verdict) (next d : Drive) → next .settings ≡ d .settings → settle v next d .drive .settings ≡ d .settings
+settled-settings v next d e = go (eqb (v .number) 0)
+  where
+    go : (b : Bool) → pick b (Answer.reply 0 0 next) (Answer.reply (v .number) (v .place) d) .drive .settings ≡ d .settings
+    go true = e
+    go false = refl
+
+pub cycle-keeps-settings : (d : Drive) (c : Cycle) → Calls.cycle d c .drive .settings ≡ d .settings
+unfolding Calls.cycle Calls.cycled
+cycle-keeps-settings d c = settled-settings (verdict (cycleRows d c)) (Calls.cycled d c) d refl
+
+pub tick-keeps-settings : (d : Drive) (t : Tick) → Calls.tick d t .drive .settings ≡ d .settings
+unfolding Calls.tick Calls.ticked
+tick-keeps-settings d t =
+    settled-settings (verdict (tickRows d t)) (Calls.ticked d t) d
+    (settings-moved d t (Causes.watch d t) (Calls.raised d t) (Calls.arms d t) (Calls.chosen d t))

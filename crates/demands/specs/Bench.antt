@@ -4,15 +4,16 @@ use mathlib.Core.Bool.{Bool, true, false, not, _&&_}
 use mathlib.Core.List.{List, [], _∷_}
 use lib.Dec.{eqb}
 use lib.IntN.{ℤ, pos, negsuc, negℤ}
-use Rattle.hall.specs.Sample.{sampled, poweredUp}
+use Rattle.hall.specs.Sample.{sampled, poweredUp, number}
 use Rattle.hall.specs.declared.Hall.{Hall}
 use Rattle.hall.specs.declared.Sampled.{Sampled}
 use Rattle.hall.specs.declared.fate.Fate.the-variants.{Dead}
 use Rattle.drive.specs.State.{is}
 use Rattle.drive.specs.Flags.{none}
-use Rattle.drive.specs.Reference.{times2048, target1, toward}
-use Rattle.drive.specs.Answer.{gate, reported}
-use Rattle.drive.specs.Calls.{fresh, load, cycle, tick, standing}
+use Rattle.drive.specs.Run.{still}
+use Rattle.drive.specs.Reference.{times2048, target1}
+use Rattle.drive.specs.Answer.{gate, answer}
+use Rattle.drive.specs.Calls.{fresh}
 use Rattle.drive.specs.Sequence.{Call, cycles, ticks, reply}
 use Rattle.drive.specs.declared.Drive.{Drive}
 use Rattle.drive.specs.declared.Cycle.{Cycle}
@@ -105,17 +106,48 @@ more (suc n) = ticks (quiet 1 0 2623) ∷ more n
 abbrev pub sixTicks : ℕ → List Call
 sixTicks n = ticks (quiet 1 0 2623) ∷ cycles sample ∷ cycles sample ∷ cycles sample ∷ more n
 
-unfoldable pub ramps : ℕ → ℤ → ℤ
-ramps zero reference = reference
-ramps (suc n) reference = ramps n (toward 64 (times2048 (pos 700)) reference)
+-- a drive in MOTORRUN with these settings and this reference, and n ticks with the target 700
+abbrev pub running : ℕ → Drive
+running reference =
+    record {
+      state = MotorRun;
+      settings = settings;
+      hall = poweredUp;
+      flags = none;
+      cycles = 0;
+      ticks = 0;
+      offsets = ready settings .offsets;
+      run = record { slots = still .slots; lock = 0; still = 0; reference = times2048 (pos reference) };
+      armed = false;
+      retries = 0;
+    }
+
+abbrev pub more700 : ℕ → List Call
+more700 zero = []
+more700 (suc n) =
+    ticks
+    (record {
+      kill = 0;
+      clear = 0;
+      command = 1;
+      control = 0;
+      raw = 2623;
+      filtered = 2623;
+      temperature = 1000;
+      flux = 2048;
+      torque = pos 0;
+      speed = pos 600;
+      target = pos 700;
+    })
+    ∷ more700 n
 
 -- a case of the bench: its number, and its test
 pub record Case : Type 0 where
-  pub number : ℕ
+  pub case-number : ℕ
   pub holds : Bool
 
 abbrev pub case : ℕ → Bool → Case
-case number holds = record { number = number; holds = holds }
+case n holds = record { case-number = n; holds = holds }
 
 unfoldable pub bench : List Case
 bench =
@@ -124,7 +156,9 @@ bench =
     -- "P2 from 0, patterns 3, 1: FFFFFFFF."
     ∷ case 2 (eqb (fed (3 ∷ 1 ∷ []) .hall .position) 0xFFFFFFFF)
     -- "P3 patterns 1, 6, 6, 6: flag 15; a fourth 6 is kept, angle 27306."
-    ∷ case 3 (fed (1 ∷ 6 ∷ 6 ∷ 6 ∷ []) .flagged && same (fed (1 ∷ 6 ∷ 6 ∷ 6 ∷ 6 ∷ []) .hall .angle) (pos 27306))
+    ∷ case 3
+    (fed (1 ∷ 6 ∷ 6 ∷ 6 ∷ []) .flagged && eqb (number (fed (1 ∷ 6 ∷ 6 ∷ 6 ∷ 6 ∷ []) .hall .kept)) 6
+    && same (fed (1 ∷ 6 ∷ 6 ∷ 6 ∷ 6 ∷ []) .hall .angle) (pos 27306))
     -- "P4 1, 0, 1, 0: no flag; 1, 0, 0: flag."
     ∷ case 4
     (not (fed (1 ∷ 0 ∷ []) .flagged) && not (fed (1 ∷ 0 ∷ 1 ∷ []) .flagged) && not (fed (1 ∷ 0 ∷ 1 ∷ 0 ∷ []) .flagged)
@@ -134,9 +168,13 @@ bench =
     -- "P6 bits 0 and 1 live: gate 0; bit 1 alone: 3."
     ∷ case 6 (eqb (gate MotorRun (killed true true)) 0 && eqb (gate MotorRun (killed false true)) 3)
     -- "P7 VdcFilt equal to VdcOvLevel: no flag."
-    ∷ case 7 (not (standing (fresh Stop settings) (quiet 0 0 3000) .over) && standing (fresh Stop settings) (quiet 0 0 3001) .over)
+    ∷ case 7
+    (eqb (reply (fresh Stop settings) (ticks (quiet 0 0 3000)) .answer .live) 0
+    && eqb (reply (fresh Stop settings) (ticks (quiet 0 0 3001)) .answer .live) 4)
     -- "P8 reference 600, target 700, rate 64: 601 after 32 ticks."
-    ∷ case 8 (same (reported (ramps 32 (times2048 (pos 600)))) (pos 601) && same (reported (ramps 31 (times2048 (pos 600)))) (pos 600))
+    ∷ case 8
+    (same (answer 0 0 (after (running 600) (more700 31)) .reference) (pos 600)
+    && same (answer 0 0 (after (running 600) (more700 32)) .reference) (pos 601))
     -- "P9 control 1424, CmdStart 400, gain 4096, MinSpd 600: target 1624."
     ∷ case 9 (eqb (target1 600 400 4096 1424) 1624)
     -- "P10 the settings above, offsets measured, armed: with command held at 1, three cycles between the first tick and the second, and

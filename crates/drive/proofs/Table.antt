@@ -37,3 +37,12 @@ exactly rows v refused = (
       (found .0, found .1, sym (found .2) ∙ e),
   λ found. first-given (found .1) ∙ found .2,
 )
+
+-- where no row holds the call is accepted
+pub accepted-otherwise : (rows : List Row) → ((r : Row) → First rows r → ⊥) → verdict rows ≡ accepted
+accepted-otherwise [] none = refl
+accepted-otherwise (r ∷ rows) none = go (r .holds) refl (accepted-otherwise rows)
+  where
+    go : (b : Bool) → r .holds ≡ b → (((q : Row) → First rows q → ⊥) → verdict rows ≡ accepted) → pick b (told r) (verdict rows) ≡ accepted
+    go true e ih = absurd (none r (here {r = r} (rw e tt)))
+    go false e ih = ih (λ q first. none q (later {r = r} (rw e tt) first))

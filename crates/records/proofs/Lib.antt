@@ -4,3 +4,4 @@ pub mod Meaning
 pub mod One
 pub mod Turn
 pub mod Going
+pub mod Fuel

@@ -3,15 +3,14 @@ use mathlib.Core.Path.{_≡_, refl, sym, subst}
 use mathlib.Core.Bool.{Bool, true, false}
 use mathlib.Core.List.{List}
 use Prim.Native.Nat.{ℕ, _+_, _≤_}
-use native.Mathlib.Omega.{arith}
 use Prim.Native.Char.{code}
 use lib.Dec.{eqb, ltb}
 use lib.ListN.{length}
 use borrow.Author.Tests.{ltb-false}
 use Rattle.numbers.specs.Choose.{pick}
-use Rattle.records.specs.Fields.{byte, settingsOf, cycleOf, tickOf}
 use Rattle.drive.specs.Sequence.{Call as Record, loads as load, cycles as cycle, ticks as tick}
-use Rattle.records.specs.Front.{sizeOf, Front, end, unknown, short, whole, held, begun, front, told}
+use Rattle.records.specs.Fields.{byte, settingsOf, cycleOf, tickOf}
+use Rattle.records.specs.Front.{sizeOf, Front, end, unknown, short, whole, held, front, told}
 use Rattle.records.specs.declared.Found.{Found}
 use Rattle.records.specs.declared.Found.the-variants.{End, Unknown, Short, Load as LoadAt, Cycle as CycleAt, Tick as TickAt}
 

@@ -1,7 +1,7 @@
 -- The run by what stands at the front, and the run with fuel for one record.
-use mathlib.Core.Path.{_≡_, refl, ap}
+use mathlib.Core.Path.{_≡_}
 use mathlib.Core.Bool.{Bool, true, false}
-use mathlib.Core.List.{List, [], _++_, append-nil}
+use mathlib.Core.List.{List, append-nil}
 use Prim.Native.Nat.{ℕ, suc, _+_, _-_, _≤_, _<_}
 use native.Mathlib.Omega.{arith}
 use lib.ListN.{length, drop}
@@ -14,7 +14,7 @@ use Rattle.report.specs.Refusals.{lineLength}
 use Rattle.report.specs.Line.{line, written as lineWritten}
 use Rattle.report.proofs.Fields.{length-line}
 use Rattle.drive.specs.Sequence.{Call as Record, reply}
-use Rattle.records.specs.Front.{sizeOf, Front, end, unknown, short, whole, front}
+use Rattle.records.specs.Front.{sizeOf, end, unknown, short, whole, front}
 use Rattle.records.specs.Run.{Outcome, onto, rest, refused, runs, told, written}
 use Rattle.records.specs.declared.Ran.{Ran}
 use Rattle.records.proofs.Printed.{answer-printed, reply-printed}
@@ -50,7 +50,9 @@ module _ (fuel : ℕ) (closed : Bool) (room : ℕ) (bytes : List ℕ) (d : Drive
     unfolding runs
     at-short-closed is shut = rw (le-ltb room lineLength wide, is, shut)
 
-    pub at-whole : (r : Record) → front bytes ≡ whole r → runs (suc fuel) closed room bytes d ≡ onto (line (reply d r .answer)) (sizeOf r) (runs fuel closed (room - lineLength) (drop (sizeOf r) bytes) (reply d r .drive))
+    pub at-whole : (r : Record) → front bytes ≡ whole r
+        → runs (suc fuel) closed room bytes d
+        ≡ onto (line (reply d r .answer)) (sizeOf r) (runs fuel closed (room - lineLength) (drop (sizeOf r) bytes) (reply d r .drive))
     unfolding runs
     at-whole r is = rw (le-ltb room lineLength wide, is)
 
@@ -64,7 +66,9 @@ module _ (closed : Bool) (room : ℕ) (bytes : List ℕ) (d : Drive) (wide : lin
   pub whole-told : (said : Reply) (size : ℕ) → said ≡ reply d r → size ≡ sizeOf r → ran said size ≡ told (runs 1 closed room bytes d)
   whole-told said size same sized = rw (one-whole, same, sized, length-line (reply d r .answer))
 
-pub whole-written : (closed : Bool) (lent bytes : List ℕ) (d : Drive) → lineLength ≤ length lent → (r : Record) (said : Reply) → front bytes ≡ whole r → said ≡ reply d r → lineWritten (said .answer) lent ≡ written (runs 1 closed (length lent) bytes d) lent
+pub whole-written : (closed : Bool) (lent bytes : List ℕ) (d : Drive) → lineLength ≤ length lent
+    → (r : Record) (said : Reply) → front bytes ≡ whole r → said ≡ reply d r
+    → lineWritten (said .answer) lent ≡ written (runs 1 closed (length lent) bytes d) lent
 whole-written closed lent bytes d wide r said is same =
     rw
     (one-whole closed (length lent) bytes d wide r is, same, reply-printed d r (length lent) wide, length-line (reply d r .answer))
@@ -72,6 +76,7 @@ whole-written closed lent bytes d wide r said is same =
 pub refused-told : (d : Drive) → record { drive = d; taken = 0; written = 45; ended = true } ≡ told (refused d)
 refused-told d = rw (length-line (answer 6 0 d))
 
-pub refused-written : (d : Drive) (said : Answer) (lent : List ℕ) → lineLength ≤ length lent → said ≡ answer 6 0 d → lineWritten said lent ≡ written (refused d) lent
+pub refused-written : (d : Drive) (said : Answer) (lent : List ℕ) → lineLength ≤ length lent → said ≡ answer 6 0 d
+    → lineWritten said lent ≡ written (refused d) lent
 refused-written d said lent wide same =
     rw (same, answer-printed 6 0 d (length lent) (omega arith) wide, length-line (answer 6 0 d))

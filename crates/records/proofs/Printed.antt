@@ -1,3 +1,4 @@
+use Rattle.drive.specs.Sequence.{Call as Record, loads as aLoad, cycles as aCycle, ticks as aTick, reply as replyTo}
 -- Every answer that the run prints is accepted by the line call where 45 bytes are lent: its number comes from a table whose numbers
 -- are small, its state and its gate from the drive.
 use mathlib.Core.Path.{_≡_}
@@ -9,9 +10,9 @@ use lib.Dec.{T, eqb, leb, leb→le}
 use Rattle.numbers.specs.Choose.{pick}
 use Rattle.drive.specs.State.{numberOf, is, turning}
 use Rattle.drive.specs.Flags.{any}
-use Rattle.drive.specs.Answer.{gate, gateOf, alive, answer, reply}
+use Rattle.drive.specs.Answer.{gate, alive, answer, reply}
 use Rattle.drive.specs.Refusals.{Row, told, verdict, loadRows, cycleRows, tickRows, settingRows}
-use Rattle.drive.specs.Calls.{settle, load, fresh, cycle, cycled, tick, ticked}
+use Rattle.drive.specs.Calls.{settle, load, cycle, cycled, tick, ticked}
 use Rattle.drive.specs.declared.Drive.{Drive}
 use Rattle.drive.specs.declared.state.State.{State}
 use Rattle.drive.specs.declared.state.State.the-variants.{Idle, Stop, OffsetCal, BtsCharge, MotorRun, Fault, CatchSpin, Parking, OpenLoop, AngleSensing}
@@ -19,7 +20,6 @@ use Rattle.drive.specs.declared.flags.Flags.{Flags}
 use Rattle.drive.specs.declared.refusals.Verdict.{Verdict}
 use Rattle.report.specs.Refusals.{lineLength, accepts}
 use Rattle.report.proofs.Accepted.{accepted}
-use Rattle.drive.specs.Sequence.{Call as Record, loads as aLoad, cycles as aCycle, ticks as aTick, reply as replyTo}
 
 state-small : (s : State) → numberOf s ≤ 9
 state-small Idle = omega arith
@@ -44,7 +44,8 @@ gate-small s f =
     (pick-small (any f) 0 _ 3 (omega arith)
     (pick-small (is 3 s) 1 _ 3 (omega arith) (pick-small (turning s) 2 0 3 (omega arith) (omega arith)))))
 
-pub answer-printed : (number place : ℕ) (d : Drive) (lent : ℕ) → number ≤ 15 → lineLength ≤ lent → accepts (answer number place d) lent ≡ true
+pub answer-printed : (number place : ℕ) (d : Drive) (lent : ℕ) → number ≤ 15 → lineLength ≤ lent
+    → accepts (answer number place d) lent ≡ true
 unfolding answer
 answer-printed number place d lent small room =
     accepted (answer number place d) lent room small (state-small (d .state)) (gate-small (d .state) (alive d))
@@ -70,7 +71,8 @@ verdict-small (r ∷ rows) all = go (r .holds) (verdict-small rows (parts .1))
     go true later = leb→le (r .number) 15 (parts .0)
     go false later = later
 
-settle-printed : (v : Verdict) (next d : Drive) (lent : ℕ) → v .number ≤ 15 → lineLength ≤ lent → accepts (settle v next d .answer) lent ≡ true
+settle-printed : (v : Verdict) (next d : Drive) (lent : ℕ) → v .number ≤ 15 → lineLength ≤ lent
+    → accepts (settle v next d .answer) lent ≡ true
 settle-printed v next d lent number room = go (eqb (v .number) 0)
   where
     go : (b : Bool) → accepts (pick b (reply 0 0 next) (reply (v .number) (v .place) d) .answer) lent ≡ true

@@ -2,7 +2,7 @@
 use Prim.Native.Nat.{ℕ, zero, suc, _+_, _*_}
 use mathlib.Core.List.{List, [], _∷_}
 use lib.IntN.{ℤ}
-use lib.ListN.{getD, drop}
+use lib.ListN.{getD}
 use mir.Syntax.{w16}
 use mir.Val.{toZ}
 use Rattle.drive.specs.declared.Cycle.{Cycle}

@@ -6,7 +6,6 @@ use crate::fields::settings_of;
 use crate::fields::tick_of;
 use crate::read;
 use drive::Drive;
-use drive::answer::Answer;
 use drive::answer::Reply;
 use drive::answer::answered as shown;
 use report::line;
@@ -15,6 +14,7 @@ ghost use mathlib.Core.Bool.{false};
 ghost use Prim.Native.Nat.{_+_, _≤_};
 ghost use lib.ListN.{length, drop};
 ghost use Rattle.drive.specs.Calls.{load, cycle, tick};
+ghost use Rattle.report.specs.Refusals.{lineLength};
 ghost use Rattle.report.specs.Line.{written as lineWritten};
 ghost use Rattle.records.specs.Fields.{settingsOf, cycleOf, tickOf};
 ghost use Rattle.records.specs.Run.{rest, refused, runs, told, written};
@@ -56,35 +56,36 @@ fn resting(drive: Drive) -> Ran
     }
 }
 
+// One line is written.
+fn lined(drive: Drive, taken: usize, ended: bool) -> Ran
+    ensures { λ r. ⌜ r ≡ record { drive = drive; taken = taken; written = lineLength; ended = ended } ⌝ }
+{
+    Ran {
+        drive,
+        taken,
+        written: LINE_LENGTH,
+        ended,
+    }
+}
+
 // A line with number 6 shows the unchanged state.
 fn refusing(drive: Drive, output: &mut [u8]) -> Ran
-    requires { ⌜ 45 ≤ length (now output) ⌝ }
+    requires { ⌜ lineLength ≤ length (now output) ⌝ }
     ensures { λ r. ⌜ r ≡ told (refused drive) ⌝ }
     ensures { λ _. ⌜ now (output .exit) ≡ written (refused drive) (now (output .entry)) ⌝ }
 {
     line(shown(drive, 6, 0), output);
-    Ran {
-        drive,
-        taken: 0,
-        written: LINE_LENGTH,
-        ended: true,
-    }
+    lined(drive, 0, true)
 }
 
 // The line of a reply, after the record that it answers.
 fn answering(reply: Reply, size: usize, output: &mut [u8]) -> Ran
-    ensures { λ r. ⌜ r ≡ record { drive = reply .drive; taken = size; written = 45; ended = false } ⌝ }
+    ensures { λ r. ⌜ r ≡ record { drive = reply .drive; taken = size; written = lineLength; ended = false } ⌝ }
     ensures { λ _. ⌜ now (output .exit) ≡ lineWritten (reply .answer) (now (output .entry)) ⌝ }
 {
     let answer = reply.answer;
-    let drive = reply.drive;
     line(answer, output);
-    Ran {
-        drive,
-        taken: size,
-        written: LINE_LENGTH,
-        ended: false,
-    }
+    lined(reply.drive, size, false)
 }
 
 // One record at most: the run with fuel for one.

@@ -1,4 +1,4 @@
-// The fields of one bytes, read off its bytes. Each function is lent bytes that begin with the bytes.
+// The fields of a record, read off its bytes. Each function is lent bytes that begin with the record.
 use drive::Cycle;
 use drive::Tick;
 use numbers::signed;

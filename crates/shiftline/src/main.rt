@@ -8,6 +8,8 @@ ghost use mathlib.Core.Path.{_≡_};
 ghost use mathlib.Core.List.{_++_};
 ghost use Prim.Native.Nat.{_-_, _≤_};
 ghost use lib.ListN.{length, take, drop};
+ghost use Rattle.records.specs.Run.{run};
+ghost use Rattle.shiftline.specs.Rest.{Rest};
 
 // What is kept from one read to the next: the drive, how many bytes at the front of the buffer are not answered yet, and whether
 // there is to be a next read.
@@ -36,6 +38,7 @@ fn moved(input: &mut [u8], from: usize, to: usize) -> usize
 fn answer(drive: Drive, input: &mut [u8], filled: usize, closed: bool, output: &mut [u8]) -> Kept
     requires { ⌜ filled ≤ length (now input) ⌝ }
     ensures { λ r. ⌜ r .held ≤ length (now (input .entry)) ⌝ }
+    ensures { λ r. ⌜ Rest (run closed (length (now (output .entry))) (take filled (now (input .entry))) drive) filled (now (input .entry)) (now (input .exit)) (r .drive) (r .held) ⌝ }
 {
     let ran = run(drive, &input[..filled], closed, output);
     let taken = ran.taken;

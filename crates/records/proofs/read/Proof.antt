@@ -1,5 +1,5 @@
 -- `read` makes the tests of the definition in its order, on the bytes that are left from its place on.
-use mathlib.Core.Path.{_≡_, refl}
+use mathlib.Core.Path.{_≡_}
 use mathlib.Core.List.{List}
 use Prim.Native.Nat.{ℕ, _+_, _-_, _≤_, _<_}
 use native.Mathlib.Omega.{arith}
@@ -9,52 +9,54 @@ use lib.Seq.{getD-drop}
 use denote.Ref.{now}
 use Rattle.numbers.specs.Choose.{pick}
 use borrow.Author.Needs.{needs}
-use borrow.Author.Tests.{eq-eqb, le-leb, le-ltb, lt-leb, lt-ltb, ne-eqb}
+use borrow.Author.Tests.{eq-eqb, le-ltb, lt-ltb, ne-eqb}
 use Rattle.records.specs.Front.{front, end, begun}
 use Rattle.records.proofs.read.Statement.{statement}
 use Rattle.records.proofs.read.Tie as tie
 
 -- what stands at a place, in terms of the whole
-from : (bytes : List ℕ) (at : ℕ) → front (drop at bytes) ≡ pick (eqb (length bytes - at) 0) end (begun (getD bytes at 0) (length bytes - at) (drop at bytes))
+from : (bytes : List ℕ) (at : ℕ)
+    → front (drop at bytes)
+    ≡ pick (eqb (length bytes - at) 0) end (begun (getD bytes at 0) (length bytes - at) (drop at bytes))
 unfolding front
 from bytes at =
     let here : at + 0 ≡ at = omega arith in
     rw (getD-drop at bytes 0 0, here, length-drop at bytes)
 
-gone : {at whole : ℕ} → whole ≤ at → whole - at ≡ 0
-gone past = omega arith
+none-left : (bytes : List ℕ) (at : ℕ) → length bytes ≤ at → front (drop at bytes) ≡ end
+none-left bytes at past = rw (from bytes at, eq-eqb (length bytes - at) 0 (omega arith))
 
-some : {at whole : ℕ} → at < whole → whole - at ≡ 0 → ⊥
-some within none = omega arith
+some-left : (bytes : List ℕ) (at : ℕ) → at < length bytes
+    → front (drop at bytes) ≡ begun (getD bytes at 0) (length bytes - at) (drop at bytes)
+some-left bytes at within = rw (from bytes at, ne-eqb (length bytes - at) 0 (λ none. omega (arith, none)))
 
 returns : tie.Need-returns
 returns c =
-    rw
-    (from (now (c .before .args .input)) (c .before .args .at), eq-eqb _ _ (gone (c .if1 .taken)))
+    rw (none-left (now (c .before .args .input)) (c .before .args .at) (c .if1 .taken))
 
 returns-2 : tie.Need-returns-2
 returns-2 c =
+    let start = c .before .before .before .before in
     rw (
-      from (now (c .before .before .before .before .args .input)) (c .before .before .before .before .args .at),
-      ne-eqb _ _ (some (c .before .before .before .if1 .left)),
+      some-left (now (start .args .input)) (start .args .at) (c .before .before .before .if1 .left),
       eq-eqb _ _ (c .before .if2 .taken),
       lt-ltb _ _ (c .if3 .taken),
     )
 
 returns-3 : tie.Need-returns-3
 returns-3 c =
+    let start = c .before .before .before .before in
     rw (
-      from (now (c .before .before .before .before .args .input)) (c .before .before .before .before .args .at),
-      ne-eqb _ _ (some (c .before .before .before .if1 .left)),
+      some-left (now (start .args .input)) (start .args .at) (c .before .before .before .if1 .left),
       eq-eqb _ _ (c .before .if2 .taken),
       le-ltb _ _ (c .if3 .left),
     )
 
 returns-4 : tie.Need-returns-4
 returns-4 c =
+    let start = c .before .before .before .before .before in
     rw (
-      from (now (c .before .before .before .before .before .args .input)) (c .before .before .before .before .before .args .at),
-      ne-eqb _ _ (some (c .before .before .before .before .if1 .left)),
+      some-left (now (start .args .input)) (start .args .at) (c .before .before .before .before .if1 .left),
       ne-eqb _ _ (c .before .before .if2 .left),
       eq-eqb _ _ (c .before .if4 .taken),
       lt-ltb _ _ (c .if5 .taken),
@@ -62,9 +64,9 @@ returns-4 c =
 
 returns-5 : tie.Need-returns-5
 returns-5 c =
+    let start = c .before .before .before .before .before in
     rw (
-      from (now (c .before .before .before .before .before .args .input)) (c .before .before .before .before .before .args .at),
-      ne-eqb _ _ (some (c .before .before .before .before .if1 .left)),
+      some-left (now (start .args .input)) (start .args .at) (c .before .before .before .before .if1 .left),
       ne-eqb _ _ (c .before .before .if2 .left),
       eq-eqb _ _ (c .before .if4 .taken),
       le-ltb _ _ (c .if5 .left),
@@ -72,9 +74,9 @@ returns-5 c =
 
 returns-6 : tie.Need-returns-6
 returns-6 c =
+    let start = c .before .before .before .before .before .before in
     rw (
-      from (now (c .before .before .before .before .before .before .args .input)) (c .before .before .before .before .before .before .args .at),
-      ne-eqb _ _ (some (c .before .before .before .before .before .if1 .left)),
+      some-left (now (start .args .input)) (start .args .at) (c .before .before .before .before .before .if1 .left),
       ne-eqb _ _ (c .before .before .before .if2 .left),
       ne-eqb _ _ (c .before .before .if4 .left),
       eq-eqb _ _ (c .before .if6 .taken),
@@ -83,9 +85,9 @@ returns-6 c =
 
 returns-7 : tie.Need-returns-7
 returns-7 c =
+    let start = c .before .before .before .before .before .before in
     rw (
-      from (now (c .before .before .before .before .before .before .args .input)) (c .before .before .before .before .before .before .args .at),
-      ne-eqb _ _ (some (c .before .before .before .before .before .if1 .left)),
+      some-left (now (start .args .input)) (start .args .at) (c .before .before .before .before .before .if1 .left),
       ne-eqb _ _ (c .before .before .before .if2 .left),
       ne-eqb _ _ (c .before .before .if4 .left),
       eq-eqb _ _ (c .before .if6 .taken),
@@ -94,9 +96,9 @@ returns-7 c =
 
 returns-8 : tie.Need-returns-8
 returns-8 c =
+    let start = c .before .before .before .before .before in
     rw (
-      from (now (c .before .before .before .before .before .args .input)) (c .before .before .before .before .before .args .at),
-      ne-eqb _ _ (some (c .before .before .before .before .if1 .left)),
+      some-left (now (start .args .input)) (start .args .at) (c .before .before .before .before .if1 .left),
       ne-eqb _ _ (c .before .before .if2 .left),
       ne-eqb _ _ (c .before .if4 .left),
       ne-eqb _ _ (c .if6 .left),

@@ -1,9 +1,7 @@
 -- `run` keeps the whole answer in sight: the lines written so far, and then the run over what is left, are the run over everything.
-use mathlib.Core.Path.{_≡_, refl, ap, sym, _∙_}
-use Prim.Native.Nat.{ℕ, _+_, _-_, _≤_, _<_}
+use Prim.Native.Nat.{_-_}
 use native.Mathlib.Omega.{arith}
-use lib.ListN.{length, drop, length-drop}
-use denote.Ref.{now}
+use lib.ListN.{length}
 use borrow.Author.Needs.{needs}
 use Rattle.records.proofs.Going.{Going, begun, length-output, Turned, stepped}
 use Rattle.records.proofs.run.Statement.{statement}
@@ -25,7 +23,8 @@ sub-step c = omega (arith, length-output (c .loop .inv), c .loop .inv .room)
 part-step-start : tie.Need-part-step-start Inv-loop μ-loop
 part-step-start c = omega (arith, length-output (c .loop .inv), c .loop .inv .room)
 
-turned : (c : tie.After-step Inv-loop μ-loop) → Turned (c .before .before .loop .inv) (c .step .result) (c .step .last .1 .1 .1 .1 .0)
+turned : (c : tie.After-step Inv-loop μ-loop)
+    → Turned (c .before .before .loop .inv) (c .step .result) (c .step .last .1 .1 .1 .1 .0)
 turned c = stepped (c .before .before .loop .inv) (c .step .ensures .0) (c .step .ensures .1)
 
 add-written : tie.Need-add-written Inv-loop μ-loop
@@ -35,13 +34,13 @@ add-taken : tie.Need-add-taken Inv-loop μ-loop
 add-taken c = omega (arith, turned (c .before .before .before .before .before) .taken-within, c .before .before .before .before .before .before .before .before .before .before .good)
 
 same-length : tie.Need-same-length Inv-loop μ-loop
-same-length c = turned (c .before .before .before .before .before .before .before) .length-next
+same-length c = turned (c .before .before .before .before .before .before .before) .length-kept
 
 returns : tie.Need-returns Inv-loop μ-loop
 returns c =
     let after = turned (c .before .before .before .before .before .before .before) in
-    let done = after .done (c .if1 .taken) in
-    (done .0, (done .1, (after .taken-within, after .filled-within)))
+    let last = c .if1 .taken in
+    (after .answer last, (after .leaves last, (after .taken-within, after .filled-within)))
 
 loop-less : tie.Need-loop-less Inv-loop μ-loop
 loop-less c = omega (arith, turned (c .before .before .before .before .before .before .before) .taken-within, c .if1 .left)

@@ -1,6 +1,6 @@
 -- `moved` has moved the first `i` bytes; the byte that it reads next stands behind them and is as it was.
 use mathlib.Core.Path.{_≡_, refl, ap, sym, _∙_}
-use mathlib.Core.List.{List, [], _∷_, _++_}
+use mathlib.Core.List.{List, _++_}
 use Prim.Native.Nat.{ℕ, suc, _+_, _-_, _≤_, _<_}
 use native.Mathlib.Numerals.{add-one}
 use native.Mathlib.Omega.{arith}
@@ -25,14 +25,23 @@ module _ (l : List ℕ) (from i : ℕ) (within : from + i < length l) where
       ∙ getD-drop i l from 0
       ∙ ap (λ (n : ℕ). getD l n 0) back
 
-  one-more : set (take i (drop from l) ++ drop i l) i (getD (take i (drop from l) ++ drop i l) (from + i) 0) ≡ take (i + 1) (drop from l) ++ drop (i + 1) l
+  one-more : set (take i (drop from l) ++ drop i l) i (getD (take i (drop from l) ++ drop i l) (from + i) 0)
+      ≡ take (i + 1) (drop from l) ++ drop (i + 1) l
   one-more =
-      rw (read, drop-cons l i 0 (omega arith), set-at (take i (drop from l)) _ _ (getD l (from + i) 0) i front-length, add-one, take-suc (drop from l) i 0 (omega (arith, length-drop from l)), getD-drop from l i 0)
+      rw (
+        read,
+        drop-cons l i 0 (omega arith),
+        set-at (take i (drop from l)) _ _ (getD l (from + i) 0) i front-length,
+        add-one,
+        take-suc (drop from l) i 0 (omega (arith, length-drop from l)),
+        getD-drop from l i 0,
+      )
       (sym (append-snoc (take i (drop from l)) (getD l (from + i) 0) (drop (suc i) l)))
 
 abbrev Inv-loop : tie.InvT-loop
 Inv-loop input₀ from to count i₀ input i =
-    (i ≤ count) × (count ≡ to - from) × (from + count ≤ length input₀) × (length input ≡ length input₀) × (input ≡ take i (drop from input₀) ++ drop i input₀)
+    (i ≤ count) × (count ≡ to - from) × (from + count ≤ length input₀) × (length input ≡ length input₀)
+    × (input ≡ take i (drop from input₀) ++ drop i input₀)
 
 abbrev μ-loop : tie.MeasureT-loop
 μ-loop input₀ from to count i₀ input i = count - i
