@@ -1,0 +1,24 @@
+-- `each` counts the 24 settings.
+use Prim.Native.Nat.{_≤_, _-_}
+use borrow.Author.Needs.{needs}
+use Rattle.refusals.proofs.settings.each.Statement.{statement}
+use Rattle.refusals.proofs.settings.each.Tie as tie
+
+abbrev Inv-loop : tie.InvT-loop
+Inv-loop i₀ i = i ≤ 24
+
+abbrev μ-loop : tie.MeasureT-loop
+μ-loop i₀ i = 24 - i
+
+pub each-spec : {M : Type 1} → statement M
+each-spec =
+    tie.close
+    (tie.spec
+    Inv-loop
+    μ-loop
+    (λ c. search needs)
+    (λ c κs. search needs)
+    (λ c. search needs)
+    (λ c. search needs)
+    (λ c. search needs)
+    (λ c. search needs))

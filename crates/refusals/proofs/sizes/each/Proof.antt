@@ -1,0 +1,31 @@
+-- `each` counts the sizes from 0 to 30.
+use Prim.Native.Nat.{_≤_, _-_}
+use borrow.Author.Needs.{needs}
+use Rattle.refusals.proofs.sizes.each.Statement.{statement}
+use Rattle.refusals.proofs.sizes.each.Tie as tie
+
+abbrev Inv-loop : tie.InvT-loop
+Inv-loop good bad size₀ t4 t5 size = size ≤ 31
+
+abbrev μ-loop : tie.MeasureT-loop
+μ-loop good bad size₀ t4 t5 size = 31 - size
+
+pub each-spec : {M : Type 1} → statement M
+each-spec =
+    tie.close
+    (tie.spec
+    Inv-loop
+    μ-loop
+    (λ c κs. search needs)
+    (λ c. search needs)
+    (λ c. search needs)
+    (λ c. search needs)
+    (λ c κs. search needs)
+    (λ c κs. search needs)
+    (λ c. search needs)
+    (λ c κs. search needs)
+    (λ c κs. search needs)
+    (λ c. search needs)
+    (λ c. search needs)
+    (λ c. search needs)
+    (λ c. search needs))

@@ -1,0 +1,56 @@
+#!/usr/bin/env python3
+"""What crates/splits reads and must print: records made by tools/records, and their lines by the independent model.
+
+cargo build --release --manifest-path model/Cargo.toml
+python3 tools/expected/splits.py crates/splits
+
+writes stdin and stdout there."""
+
+import subprocess
+import sys
+from pathlib import Path
+
+ROOT = Path(__file__).resolve().parents[2]
+MODEL = ROOT / "model/target/release/shiftline_model"
+
+# Every kind of record and of refusal, and what a drive carries from call to call: sums, counts, position, flags, arming.
+# The last record is unknown, and three bytes of a known one stand behind it.
+TEXT = """
+cycle 1                       # IDLE: refused with 3
+load OffsetPsc=7 TCatchSpin=0
+tick command=0                # OFFSETCAL, armed
+repeat 8 {                    # a turn, with a dead and a stray pattern
+  cycle 1 2051 2044
+  cycle 3 2050 2045
+  cycle 2 2049 2046
+  cycle 0 2048 2047
+  cycle 6 2047 2048
+  cycle 4 2046 2049
+  cycle 5 4095 4095
+  cycle 2 0 0
+}
+tick                          # STOP: 64 cycles done
+tick command=1                # BTSCHARGE: the start
+cycle 8                       # refused with 1
+repeat 3 cycle 4
+tick                          # CATCHSPIN
+tick gate_kill=1              # FAULT
+load                          # refused with 4
+raw 58 43 01 00
+"""
+
+# So many bytes less, and the second run ends in a short load.
+CUT = 20
+
+
+def told(stream: bytes) -> bytes:
+    """The lines, and that none of the splits, before each byte and behind the last, differs."""
+    lines = subprocess.run([MODEL], input=stream, stdout=subprocess.PIPE, check=True).stdout
+    return lines + b"%d splits, 0 differ\n" % (len(stream) + 1)
+
+
+if __name__ == "__main__":
+    folder = Path(sys.argv[1])
+    made = subprocess.run([ROOT / "tools/records"], input=TEXT.encode(), stdout=subprocess.PIPE, check=True).stdout
+    (folder / "stdin").write_bytes(made)
+    (folder / "stdout").write_bytes(told(made) + told(made[:-CUT]))
