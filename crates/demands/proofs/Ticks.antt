@@ -31,69 +31,8 @@ use Rattle.drive.specs.declared.moves.Move.the-variants.{Stay, Enter, Measure, 
 use Rattle.demands.specs.Supervised.{placeOf, turns}
 use Rattle.demands.proofs.Gates.{gates-by, either-alive}
 use Rattle.demands.proofs.Allowed.{isRun, Allowed, stays, trips, stops, calibrates, starts, runs, measures, clears, retries, moveAt, allowed}
+use Rattle.demands.proofs.Places.{turning-place, fault-place, run-place, run-loaded, run-unarmed, no-fault}
 use Rattle.demands.proofs.Steps.{holds, Asks, Arms, stays-law, rests-law, starts-law, runs-law, clears-law, retries-law}
-
--- ---- states and places
-
-turning-place : (state : State) → turning state ≡ isStartOrRun (placeOf state)
-turning-place Idle = refl
-turning-place Stop = refl
-turning-place OffsetCal = refl
-turning-place BtsCharge = refl
-turning-place MotorRun = refl
-turning-place Fault = refl
-turning-place CatchSpin = refl
-turning-place Parking = refl
-turning-place OpenLoop = refl
-turning-place AngleSensing = refl
-
-fault-place : (state : State) → is 5 state ≡ isFault (placeOf state)
-fault-place Idle = refl
-fault-place Stop = refl
-fault-place OffsetCal = refl
-fault-place BtsCharge = refl
-fault-place MotorRun = refl
-fault-place Fault = refl
-fault-place CatchSpin = refl
-fault-place Parking = refl
-fault-place OpenLoop = refl
-fault-place AngleSensing = refl
-
-run-place : (state : State) → T (isRun state) → placeOf state ≡ atRun
-run-place Idle t = absurd t
-run-place Stop t = absurd t
-run-place OffsetCal t = absurd t
-run-place BtsCharge t = absurd t
-run-place MotorRun t = refl
-run-place Fault t = absurd t
-run-place CatchSpin t = refl
-run-place Parking t = refl
-run-place OpenLoop t = refl
-run-place AngleSensing t = refl
-
-run-loaded : (state : State) → T (isRun state) → T (not (is 0 state))
-run-loaded Idle t = absurd t
-run-loaded Stop t = absurd t
-run-loaded OffsetCal t = absurd t
-run-loaded BtsCharge t = absurd t
-run-loaded MotorRun t = tt
-run-loaded Fault t = absurd t
-run-loaded CatchSpin t = tt
-run-loaded Parking t = tt
-run-loaded OpenLoop t = tt
-run-loaded AngleSensing t = tt
-
-run-unarmed : (state : State) → T (isRun state) → (armed : Bool) → T (not (is 5 state && armed))
-run-unarmed Idle t armed = absurd t
-run-unarmed Stop t armed = absurd t
-run-unarmed OffsetCal t armed = absurd t
-run-unarmed BtsCharge t armed = absurd t
-run-unarmed MotorRun t armed = tt
-run-unarmed Fault t armed = absurd t
-run-unarmed CatchSpin t armed = tt
-run-unarmed Parking t armed = tt
-run-unarmed OpenLoop t armed = tt
-run-unarmed AngleSensing t armed = tt
 
 -- ---- what the drive holds inside
 
@@ -134,13 +73,6 @@ stays-unarmed true true low t = absurd t
 stays-unarmed true false true t = tt
 stays-unarmed true false false t = tt
 stays-unarmed false armed low t = tt
-
-no-fault : (place : Place) → T (isStartOrRun place) → T (not (isFault place))
-no-fault atStop t = tt
-no-fault atStart t = tt
-no-fault atRun t = tt
-no-fault atFault t = absurd t
-no-fault elsewhere t = tt
 
 -- ---- a tick in a state, of a drive whose other fields are anything
 
