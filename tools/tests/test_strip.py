@@ -13,15 +13,9 @@ STRIP = Path(__file__).resolve().parent.parent / "strip"
 SVG = "{http://www.w3.org/2000/svg}"
 LEFT, RIGHT, WIDTH = 200.0, 1080.0 - 28.0, 1080.0
 
-# Document 01's own output.
-PAPER = """\
-3 IDLE........ 0 0000 +00000 00000000 +00000
-0 STOP........ 0 0000 +00000 00000000 +00000
-0 STOP........ 0 0000 +00000 00000000 -05462
-0 STOP........ 0 0000 +00000 00000001 +00000
-0 OFFSETCAL... 0 0000 +00000 00000001 +00000
-0 FAULT....... 0 0004 +00000 00000001 +00000
-"""
+# Document 01's own output, as it is typed there.
+sys.path.insert(0, str(STRIP.parent / "expected"))
+from shiftline_example import OUTPUT as PAPER  # noqa: E402
 
 
 def line(number=0, state="STOP", gate=0, live=0, reference=0, position=0, angle=0) -> str:
