@@ -1,9 +1,18 @@
 //! Settings for a load: good ones, and ones that break a given rule.
 
 use super::Generator;
+use crate::random::Random;
 
 /// The settings that can be refused, from 1.
 pub const REFUSABLE: [usize; 17] = [1, 3, 4, 5, 6, 7, 8, 9, 11, 12, 13, 14, 17, 18, 21, 22, 24];
+
+/// A level that another has to lie below: the usual one, near an end, or any.
+fn level(random: &mut Random, usual: i64) -> i64 {
+    match random.pick(&[1, 2, usual, 4094, 4095, 0]) {
+        0 => random.between(1, 4095),
+        chosen => chosen,
+    }
+}
 
 impl Generator {
     /// 24 numbers that a load accepts.  Slow causes and long states are kept
@@ -20,12 +29,7 @@ impl Generator {
             random.pick(&[65535, 65535, 0, any_bits, any_bits, most_bits]),
         );
 
-        let over = random.pick(&[1, 2, 3000, 4094, 4095, 0]);
-        let over = if over == 0 {
-            random.between(1, 4095)
-        } else {
-            over
-        };
+        let over = level(random, 3000);
         set(3, over);
         set(4, random.leaning(0, over - 1));
         set(5, random.leaning(over, 4095));
@@ -67,12 +71,7 @@ impl Generator {
         set(19, random.pick(&[0, 1, 2, 3, 6]));
         set(20, random.pick(&[0, 1, 65535]));
 
-        let start = random.pick(&[1, 2, 400, 4094, 4095, 0]);
-        let start = if start == 0 {
-            random.between(1, 4095)
-        } else {
-            start
-        };
+        let start = level(random, 400);
         set(21, start);
         set(22, random.leaning(0, start - 1));
         let any_gain = random.between(0, 65535);
