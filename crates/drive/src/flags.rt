@@ -99,6 +99,13 @@ impl Flags {
             | self.hall
     }
 
+    // Whether one of them is live under the mask.
+    pub(crate) fn alight(self, mask: u16) -> bool
+        ensures { λ r. ⌜ r ≡ any (live mask self) ⌝ }
+    {
+        self.live(mask).any()
+    }
+
     // The word of 16 bits.
     pub(crate) fn word(self) -> u16
         ensures { λ r. ⌜ r ≡ word self ⌝ }

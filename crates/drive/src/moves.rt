@@ -32,6 +32,73 @@ fn six_times(pulses: u16) -> u32
     6 * (pulses as u32)
 }
 
+fn from_stop(measured: bool, armed: bool, high: bool) -> Move
+    ensures { λ r. ⌜ r ≡ fromStop measured armed high ⌝ }
+{
+    let start = pick_move(armed & high, Move::Enter(State::BtsCharge), Move::Stay);
+    pick_move(!measured, Move::Enter(State::OffsetCal), start)
+}
+
+fn from_offset_cal(settings: [u16; 24], cycles: u32) -> Move
+    ensures { λ r. ⌜ r ≡ fromOffsetCal settings cycles ⌝ }
+{
+    pick_move(samples(settings[13]) <= cycles, Move::Measure, Move::Stay)
+}
+
+fn from_bts_charge(settings: [u16; 24], cycles: u32) -> Move
+    ensures { λ r. ⌜ r ≡ fromBtsCharge settings cycles ⌝ }
+{
+    let charged = (settings[14] as u32) <= cycles;
+    pick_move(charged, Move::Enter(State::CatchSpin), Move::Stay)
+}
+
+fn from_catch_spin(settings: [u16; 24], n: u32, speed: u16) -> Move
+    ensures { λ r. ⌜ r ≡ fromCatchSpin settings n speed ⌝ }
+{
+    let time = settings[15] as u32;
+    let fast = settings[16] < speed;
+    let caught = pick_move(
+        fast,
+        Move::Enter(State::MotorRun),
+        Move::Enter(State::AngleSensing),
+    );
+    let ends = pick_move(time <= n, caught, Move::Stay);
+    pick_move(time == 0, Move::Enter(State::AngleSensing), ends)
+}
+
+fn from_angle_sensing(settings: [u16; 24], cycles: u32) -> Move
+    ensures { λ r. ⌜ r ≡ fromAngleSensing settings cycles ⌝ }
+{
+    let pulses = settings[17];
+    let sensed = six_times(pulses) <= cycles;
+    let ends = pick_move(sensed, Move::Enter(State::MotorRun), Move::Stay);
+    pick_move(pulses == 0, Move::Enter(State::Parking), ends)
+}
+
+fn from_parking(settings: [u16; 24], n: u32) -> Move
+    ensures { λ r. ⌜ r ≡ fromParking settings n ⌝ }
+{
+    let parked = (settings[18] as u32) <= n;
+    pick_move(parked, Move::Enter(State::OpenLoop), Move::Stay)
+}
+
+fn from_open_loop(settings: [u16; 24], speed: u16) -> Move
+    ensures { λ r. ⌜ r ≡ fromOpenLoop settings speed ⌝ }
+{
+    let fast = (settings[19] == 0) | (settings[10] <= speed);
+    pick_move(fast, Move::Enter(State::MotorRun), Move::Stay)
+}
+
+fn from_fault(settings: [u16; 24], n: u32, retries: u32, clear: u8, blocked: bool) -> Move
+    ensures { λ r. ⌜ r ≡ fromFault settings n retries clear blocked ⌝ }
+{
+    let waited = (settings[0] == 1) & (10000 <= n);
+    let again = waited & (retries < (settings[23] as u32));
+    let timed = pick_move(again, Move::Retry, Move::Stay);
+    let ends = pick_move(clear == 1, Move::Clear, timed);
+    pick_move(blocked, Move::Stay, ends)
+}
+
 impl Drive {
     pub(crate) fn nth(self) -> u32
         ensures { λ r. ⌜ r ≡ nth self ⌝ }
@@ -39,112 +106,26 @@ impl Drive {
         count_up(self.ticks, 65535)
     }
 
-    fn from_stop(self, high: bool) -> Move
-        ensures { λ r. ⌜ r ≡ fromStop self high ⌝ }
-    {
-        let offsets = self.offsets;
-        let start = pick_move(self.armed & high, Move::Enter(State::BtsCharge), Move::Stay);
-        pick_move(!offsets.measured, Move::Enter(State::OffsetCal), start)
-    }
-
-    fn from_offset_cal(self) -> Move
-        ensures { λ r. ⌜ r ≡ fromOffsetCal self ⌝ }
-    {
-        let settings = self.settings;
-        pick_move(
-            samples(settings[13]) <= self.cycles,
-            Move::Measure,
-            Move::Stay,
-        )
-    }
-
-    fn from_bts_charge(self) -> Move
-        ensures { λ r. ⌜ r ≡ fromBtsCharge self ⌝ }
-    {
-        let settings = self.settings;
-        pick_move(
-            (settings[14] as u32) <= self.cycles,
-            Move::Enter(State::CatchSpin),
-            Move::Stay,
-        )
-    }
-
-    fn from_catch_spin(self, tick: Tick) -> Move
-        ensures { λ r. ⌜ r ≡ fromCatchSpin self tick ⌝ }
-    {
-        let settings = self.settings;
-        let time = settings[15] as u32;
-        let fast = settings[16] < tick.absolute_speed();
-        let caught = pick_move(
-            fast,
-            Move::Enter(State::MotorRun),
-            Move::Enter(State::AngleSensing),
-        );
-        let ends = pick_move(time <= self.nth(), caught, Move::Stay);
-        pick_move(time == 0, Move::Enter(State::AngleSensing), ends)
-    }
-
-    fn from_angle_sensing(self) -> Move
-        ensures { λ r. ⌜ r ≡ fromAngleSensing self ⌝ }
-    {
-        let settings = self.settings;
-        let sensed = six_times(settings[17]) <= self.cycles;
-        let ends = pick_move(sensed, Move::Enter(State::MotorRun), Move::Stay);
-        pick_move(settings[17] == 0, Move::Enter(State::Parking), ends)
-    }
-
-    fn from_parking(self) -> Move
-        ensures { λ r. ⌜ r ≡ fromParking self ⌝ }
-    {
-        let settings = self.settings;
-        pick_move(
-            (settings[18] as u32) <= self.nth(),
-            Move::Enter(State::OpenLoop),
-            Move::Stay,
-        )
-    }
-
-    fn from_open_loop(self, tick: Tick) -> Move
-        ensures { λ r. ⌜ r ≡ fromOpenLoop self tick ⌝ }
-    {
-        let settings = self.settings;
-        let fast = settings[10] <= tick.absolute_speed();
-        pick_move(
-            (settings[19] == 0) | fast,
-            Move::Enter(State::MotorRun),
-            Move::Stay,
-        )
-    }
-
-    fn from_fault(self, tick: Tick, blocked: bool) -> Move
-        ensures { λ r. ⌜ r ≡ fromFault self tick blocked ⌝ }
-    {
-        let settings = self.settings;
-        let waited = (settings[0] == 1) & (10000 <= self.nth());
-        let retries = waited & (self.retries < (settings[23] as u32));
-        let ends = pick_move(
-            tick.clear == 1,
-            Move::Clear,
-            pick_move(retries, Move::Retry, Move::Stay),
-        );
-        pick_move(blocked, Move::Stay, ends)
-    }
-
     fn own_move(self, tick: Tick, high: bool, blocked: bool) -> Move
         ensures { λ r. ⌜ r ≡ own self tick high blocked (self .state) ⌝ }
     {
         let state = self.state;
+        let settings = self.settings;
+        let offsets = self.offsets;
+        let measured = offsets.measured;
+        let n = self.nth();
+        let speed = tick.absolute_speed();
         match state {
             State::Idle => Move::Stay,
-            State::Stop => self.from_stop(high),
-            State::OffsetCal => self.from_offset_cal(),
-            State::BtsCharge => self.from_bts_charge(),
+            State::Stop => from_stop(measured, self.armed, high),
+            State::OffsetCal => from_offset_cal(settings, self.cycles),
+            State::BtsCharge => from_bts_charge(settings, self.cycles),
             State::MotorRun => Move::Stay,
-            State::Fault => self.from_fault(tick, blocked),
-            State::CatchSpin => self.from_catch_spin(tick),
-            State::Parking => self.from_parking(),
-            State::OpenLoop => self.from_open_loop(tick),
-            State::AngleSensing => self.from_angle_sensing(),
+            State::Fault => from_fault(settings, n, self.retries, tick.clear, blocked),
+            State::CatchSpin => from_catch_spin(settings, n, speed),
+            State::Parking => from_parking(settings, n),
+            State::OpenLoop => from_open_loop(settings, speed),
+            State::AngleSensing => from_angle_sensing(settings, self.cycles),
         }
     }
 

@@ -19,13 +19,22 @@ use crate::state::State;
 use crate::state::number;
 use numbers::count_up;
 ghost use mathlib.Core.Path.{_≡_};
+ghost use mathlib.Core.Bool.{_&&_, _||_, not};
 ghost use Rattle.numbers.specs.Choose.{pick};
-ghost use Rattle.drive.specs.Calls.{arrive, starting, entered, ran, stayed, measured, retried, moved, arms, alight, ticked, tick};
+ghost use Rattle.drive.specs.State.{is};
+ghost use Rattle.drive.specs.Calls.{arrive, starting, entered, ran, stayed, measured, retried, moved, ticked, tick};
 
 fn pick_run(test: bool, yes: Run, no: Run) -> Run
     ensures { λ r. ⌜ r ≡ pick test yes no ⌝ }
 {
     if test { yes } else { no }
+}
+
+// A low, where the state before the tick is not FAULT, arms.
+fn arms(armed: bool, state: State, low: bool) -> bool
+    ensures { λ r. ⌜ r ≡ (armed || low && not (is 5 state)) ⌝ }
+{
+    armed | (low & !(number(state) == 5))
 }
 
 impl Tick {
@@ -182,24 +191,10 @@ impl Drive {
         }
     }
 
-    fn arms(self, tick: Tick) -> bool
-        ensures { λ r. ⌜ r ≡ arms self tick ⌝ }
-    {
-        let settings = self.settings;
-        let state = self.state;
-        self.armed | (low(settings, tick) & !(number(state) == 5))
-    }
-
-    fn alight(self, flags: Flags) -> bool
-        ensures { λ r. ⌜ r ≡ alight self flags ⌝ }
-    {
-        let settings = self.settings;
-        flags.live(settings[1]).any()
-    }
-
     fn ticked(self, tick: Tick) -> Drive
         ensures { λ r. ⌜ r ≡ ticked self tick ⌝ }
     {
+        let state = self.state;
         let settings = self.settings;
         let run = self.run;
         let hall = self.hall;
@@ -209,10 +204,12 @@ impl Drive {
         let raised = old.either(standing);
         let is_low = low(settings, tick);
         let is_high = high(settings, tick);
-        let tripped = self.alight(raised);
-        let blocked = self.alight(standing);
+        let mask = settings[1];
+        let tripped = raised.alight(mask);
+        let blocked = standing.alight(mask);
         let step = self.move_of(tick, is_low, is_high, tripped, blocked);
-        self.moved(tick, watched, raised, self.arms(tick), step)
+        let armed = arms(self.armed, state, is_low);
+        self.moved(tick, watched, raised, armed, step)
     }
 
     pub fn tick(self, fields: Tick) -> Reply

@@ -39,6 +39,7 @@ returns-6 c =
     rw (
       c .before .enum-told6 .given .1,
       c .from-fault .ensures,
+      c .before .before .before .before .nth .ensures,
     )
 
 returns-7 : tie.Need-returns-7
@@ -46,6 +47,8 @@ returns-7 c =
     rw (
       c .before .enum-told7 .given .1,
       c .from-catch-spin .ensures,
+      c .before .before .before .absolute-speed .ensures,
+      c .before .before .before .before .nth .ensures,
     )
 
 returns-8 : tie.Need-returns-8
@@ -53,6 +56,7 @@ returns-8 c =
     rw (
       c .before .enum-told8 .given .1,
       c .from-parking .ensures,
+      c .before .before .before .before .nth .ensures,
     )
 
 returns-9 : tie.Need-returns-9
@@ -60,6 +64,7 @@ returns-9 c =
     rw (
       c .before .enum-told9 .given .1,
       c .from-open-loop .ensures,
+      c .before .before .before .absolute-speed .ensures,
     )
 
 returns-10 : tie.Need-returns-10
@@ -73,6 +78,8 @@ pub own-move-spec : {M : Type 1} → statement M
 own-move-spec =
     tie.close
     (tie.spec
+    (λ c κs. search needs)
+    (λ c κs. search needs)
     (λ c. search needs)
     (λ c. search needs)
     (λ c κs. search needs)

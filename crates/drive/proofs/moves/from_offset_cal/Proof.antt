@@ -1,13 +1,13 @@
 -- `from_offset_cal` compares the cycles done with the number of samples.
 use borrow.Author.Needs.{needs}
-use Rattle.drive.proofs.Drive.from_offset_cal.Statement.{statement}
-use Rattle.drive.proofs.Drive.from_offset_cal.Tie as tie
+use Rattle.drive.proofs.moves.from_offset_cal.Statement.{statement}
+use Rattle.drive.proofs.moves.from_offset_cal.Tie as tie
 
 returns : tie.Need-returns
 returns c =
     rw (
       c .pick-move .ensures,
-      c .before .before .samples .ensures,
+      c .before .samples .ensures,
     )
 
 pub from-offset-cal-spec : {M : Type 1} → statement M

@@ -1,13 +1,13 @@
 -- `from_stop` asks for the offsets first, then for the start.
 use borrow.Author.Needs.{needs}
-use Rattle.drive.proofs.Drive.from_stop.Statement.{statement}
-use Rattle.drive.proofs.Drive.from_stop.Tie as tie
+use Rattle.drive.proofs.moves.from_stop.Statement.{statement}
+use Rattle.drive.proofs.moves.from_stop.Tie as tie
 
 returns : tie.Need-returns
 returns c =
     rw (
       c .pick-move2 .ensures,
-      c .before .before .pick-move .ensures,
+      c .before .pick-move .ensures,
     )
 
 pub from-stop-spec : {M : Type 1} → statement M

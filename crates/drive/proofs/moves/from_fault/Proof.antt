@@ -1,7 +1,7 @@
 -- `from_fault` asks for a live cause first, then for clear, then for a retry.
 use borrow.Author.Needs.{needs}
-use Rattle.drive.proofs.Drive.from_fault.Statement.{statement}
-use Rattle.drive.proofs.Drive.from_fault.Tie as tie
+use Rattle.drive.proofs.moves.from_fault.Statement.{statement}
+use Rattle.drive.proofs.moves.from_fault.Tie as tie
 
 returns : tie.Need-returns
 returns c =
@@ -9,7 +9,6 @@ returns c =
       c .pick-move3 .ensures,
       c .before .pick-move2 .ensures,
       c .before .before .pick-move .ensures,
-      c .before .before .before .before .before .nth .ensures,
     )
 
 pub from-fault-spec : {M : Type 1} → statement M
@@ -17,7 +16,6 @@ from-fault-spec =
     tie.close
     (tie.spec
     (λ c. search needs)
-    (λ c κs. search needs)
     (λ c. search needs)
     (λ c. search needs)
     (λ c κs. search needs)

@@ -1,14 +1,14 @@
 -- `from_angle_sensing` picks in the order of the paper's sentence.
 use borrow.Author.Needs.{needs}
-use Rattle.drive.proofs.Drive.from_angle_sensing.Statement.{statement}
-use Rattle.drive.proofs.Drive.from_angle_sensing.Tie as tie
+use Rattle.drive.proofs.moves.from_angle_sensing.Statement.{statement}
+use Rattle.drive.proofs.moves.from_angle_sensing.Tie as tie
 
 returns : tie.Need-returns
 returns c =
     rw (
       c .pick-move2 .ensures,
       c .before .pick-move .ensures,
-      c .before .before .before .six-times .ensures,
+      c .before .before .six-times .ensures,
     )
 
 pub from-angle-sensing-spec : {M : Type 1} → statement M
@@ -18,6 +18,5 @@ from-angle-sensing-spec =
     (λ c. search needs)
     (λ c κs. search needs)
     (λ c κs. search needs)
-    (λ c. search needs)
     (λ c κs. search needs)
     returns)

@@ -1,7 +1,7 @@
 -- `alight` asks of the live flags whether any is set, as the definition does.
 use borrow.Author.Needs.{needs}
-use Rattle.drive.proofs.Drive.alight.Statement.{statement}
-use Rattle.drive.proofs.Drive.alight.Tie as tie
+use Rattle.drive.proofs.flags.Flags.alight.Statement.{statement}
+use Rattle.drive.proofs.flags.Flags.alight.Tie as tie
 
 returns : tie.Need-returns
 returns c =
@@ -14,7 +14,6 @@ pub alight-spec : {M : Type 1} → statement M
 alight-spec =
     tie.close
     (tie.spec
-    (λ c. search needs)
     (λ c κs. search needs)
     (λ c κs. search needs)
     returns)

@@ -1,16 +1,14 @@
 -- `from_catch_spin` picks in the order of the paper's sentence, by the absolute speed.
 use borrow.Author.Needs.{needs}
-use Rattle.drive.proofs.Drive.from_catch_spin.Statement.{statement}
-use Rattle.drive.proofs.Drive.from_catch_spin.Tie as tie
+use Rattle.drive.proofs.moves.from_catch_spin.Statement.{statement}
+use Rattle.drive.proofs.moves.from_catch_spin.Tie as tie
 
 returns : tie.Need-returns
 returns c =
     rw (
       c .pick-move3 .ensures,
       c .before .pick-move2 .ensures,
-      c .before .before .nth .ensures,
-      c .before .before .before .pick-move .ensures,
-      c .before .before .before .before .absolute-speed .ensures,
+      c .before .before .pick-move .ensures,
     )
 
 pub from-catch-spin-spec : {M : Type 1} → statement M
@@ -20,8 +18,6 @@ from-catch-spin-spec =
     (λ c. search needs)
     (λ c. search needs)
     (λ c. search needs)
-    (λ c κs. search needs)
-    (λ c κs. search needs)
     (λ c κs. search needs)
     (λ c κs. search needs)
     (λ c κs. search needs)
