@@ -18,8 +18,8 @@ use Rattle.hall.specs.declared.fate.Kept.the-variants.{Pattern}
 use Rattle.drive.specs.declared.state.State.the-variants.{Stop, Fault}
 use Rattle.drive.specs.declared.Drive.{Drive}
 use Rattle.demands.proofs.Computes.{computes}
-use Rattle.demands.specs.Bench.{settings, after}
-use Rattle.demands.specs.Silence.{times, settings1, high, clear, raised, tripped, waited, held}
+use Rattle.demands.specs.Bench.{settings, after, times}
+use Rattle.demands.specs.Silence.{settings1, high, clear, raised, tripped, waited, held}
 use Rattle.demands.specs.Supervised.{turns}
 
 -- A raised command: MOTORRUN with the gates driving.

@@ -1,7 +1,7 @@
 -- Document 01, "Bench cases (P: to be proved)": P1 to P10 as one table of tests on the definitions.
-use Prim.Native.Nat.{ℕ, zero, suc, _^_, _-_}
+use Prim.Native.Nat.{ℕ, zero, suc}
 use mathlib.Core.Bool.{Bool, true, false, not, _&&_}
-use mathlib.Core.List.{List, [], _∷_}
+use mathlib.Core.List.{List, [], _∷_, _++_}
 use lib.Dec.{eqb}
 use lib.IntN.{ℤ, pos, negsuc, negℤ}
 use Rattle.hall.specs.Sample.{sampled, poweredUp, number}
@@ -37,18 +37,21 @@ patterns offset hall (p ∷ q ∷ rest) = patterns offset (sampled hall p offset
 abbrev pub fed : List ℕ → Sampled
 fed ps = patterns (pos 0) poweredUp ps
 
--- the settings of the paper's example
-abbrev pub settings : List ℕ
-settings =
-    0 ∷ 65535 ∷ 3000 ∷ 1000 ∷ 3500 ∷ 3500 ∷ 100 ∷ 800 ∷ 100 ∷ 0 ∷ 600 ∷ 64 ∷
+-- the settings of the paper's example in mode 0 or 1
+abbrev pub settingsIn : ℕ → List ℕ
+settingsIn mode =
+    mode ∷ 65535 ∷ 3000 ∷ 1000 ∷ 3500 ∷ 3500 ∷ 100 ∷ 800 ∷ 100 ∷ 0 ∷ 600 ∷ 64 ∷
     4095 ∷ 7 ∷ 3 ∷ 0 ∷ 300 ∷ 0 ∷ 0 ∷ 0 ∷ 400 ∷ 300 ∷ 4096 ∷ 2 ∷ []
 
--- the tick of the paper's example, with its command, control and VdcFilt
-abbrev pub quiet : ℕ → ℕ → ℕ → Tick
-quiet command control filtered =
+abbrev pub settings : List ℕ
+settings = settingsIn 0
+
+-- the tick of the paper's example, with what a case changes of it
+abbrev pub told : ℕ → ℕ → ℕ → ℕ → ℕ → ℕ → Tick
+told clear command control filtered speed target =
     record {
       kill = 0;
-      clear = 0;
+      clear = clear;
       command = command;
       control = control;
       raw = 2623;
@@ -56,9 +59,12 @@ quiet command control filtered =
       temperature = 1000;
       flux = 2048;
       torque = pos 0;
-      speed = pos 0;
-      target = pos 0;
+      speed = pos speed;
+      target = pos target;
     }
+
+abbrev pub quiet : ℕ → ℕ → ℕ → Tick
+quiet command control filtered = told 0 command control filtered 0 0
 
 abbrev pub sample : Cycle
 sample = record { pattern = 1; first = 0; second = 0 }
@@ -67,6 +73,11 @@ sample = record { pattern = 1; first = 0; second = 0 }
 unfoldable pub after : Drive → List Call → Drive
 after d [] = d
 after d (call ∷ calls) = after (reply d call .drive) calls
+
+-- a call n times
+abbrev pub times : ℕ → Call → List Call
+times zero call = []
+times (suc n) call = call ∷ times n call
 
 -- a drive in STOP with these settings, its offsets measured, and armed
 abbrev pub ready : List ℕ → Drive
@@ -84,6 +95,7 @@ ready s =
       retries = 0;
     }
 
+-- flags 0 and 1 as told, and no others
 abbrev pub killed : Bool → Bool → Flags
 killed kill critical =
     record {
@@ -98,15 +110,14 @@ killed kill critical =
       hall = false;
     }
 
--- the start's tick, three cycles, and n ticks more, all with command 1
-abbrev pub more : ℕ → List Call
-more zero = []
-more (suc n) = ticks (quiet 1 0 2623) ∷ more n
+-- a tick with command 1; the start's tick, three cycles, and n ticks more
+abbrev pub commanded : Call
+commanded = ticks (quiet 1 0 2623)
 
-abbrev pub sixTicks : ℕ → List Call
-sixTicks n = ticks (quiet 1 0 2623) ∷ cycles sample ∷ cycles sample ∷ cycles sample ∷ more n
+abbrev pub started : ℕ → List Call
+started n = commanded ∷ times 3 (cycles sample) ++ times n commanded
 
--- a drive in MOTORRUN with these settings and this reference, and n ticks with the target 700
+-- a drive in MOTORRUN with the example's settings and this reference
 abbrev pub running : ℕ → Drive
 running reference =
     record {
@@ -122,24 +133,9 @@ running reference =
       retries = 0;
     }
 
-abbrev pub more700 : ℕ → List Call
-more700 zero = []
-more700 (suc n) =
-    ticks
-    (record {
-      kill = 0;
-      clear = 0;
-      command = 1;
-      control = 0;
-      raw = 2623;
-      filtered = 2623;
-      temperature = 1000;
-      flux = 2048;
-      torque = pos 0;
-      speed = pos 600;
-      target = pos 700;
-    })
-    ∷ more700 n
+-- after n ticks at speed 600 with the target 700, the reference from 600 on
+abbrev pub ramped : ℕ → ℤ
+ramped n = answer 0 0 (after (running 600) (times n (ticks (told 0 1 0 2623 600 700)))) .reference
 
 -- a case of the bench: its number, and its test
 pub record Case : Type 0 where
@@ -173,14 +169,13 @@ bench =
     && eqb (reply (fresh Stop settings) (ticks (quiet 0 0 3001)) .answer .live) 4)
     -- "P8 reference 600, target 700, rate 64: 601 after 32 ticks."
     ∷ case 8
-    (same (answer 0 0 (after (running 600) (more700 31)) .reference) (pos 600)
-    && same (answer 0 0 (after (running 600) (more700 32)) .reference) (pos 601))
+    (same (ramped 31) (pos 600) && same (ramped 32) (pos 601))
     -- "P9 control 1424, CmdStart 400, gain 4096, MinSpd 600: target 1624."
     ∷ case 9 (eqb (target1 600 400 4096 1424) 1624)
     -- "P10 the settings above, offsets measured, armed: with command held at 1, three cycles between the first tick and the second, and
     -- no flag, MOTORRUN at the sixth tick, the start being the first."
     ∷ case 10
-    (is 3 (after (ready settings) (ticks (quiet 1 0 2623) ∷ []) .state)
-    && is 8 (after (ready settings) (sixTicks 4) .state)
-    && is 4 (after (ready settings) (sixTicks 5) .state))
+    (is 3 (after (ready settings) (commanded ∷ []) .state)
+    && is 8 (after (ready settings) (started 4) .state)
+    && is 4 (after (ready settings) (started 5) .state))
     ∷ []

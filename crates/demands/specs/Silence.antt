@@ -1,24 +1,15 @@
 -- Demand 3 is no demand to stand still. Three named runs from power-up: one that turns by a raised command, one that trips and turns again by
 -- a timed retry, and one in which a command held high after a clear starts nothing.
-use Prim.Native.Nat.{ℕ, zero, suc}
+use Prim.Native.Nat.{ℕ}
 use mathlib.Core.List.{List, [], _∷_, _++_}
-use lib.IntN.{pos}
 use Rattle.drive.specs.Sequence.{Call, loads, cycles, ticks}
 use Rattle.drive.specs.Calls.{powerUp}
 use Rattle.drive.specs.declared.Drive.{Drive}
-use Rattle.drive.specs.declared.Tick.{Tick}
-use Rattle.demands.specs.Bench.{settings, quiet, sample, after}
-
--- a call n times
-abbrev pub times : ℕ → Call → List Call
-times zero call = []
-times (suc n) call = call ∷ times n call
+use Rattle.demands.specs.Bench.{settingsIn, told, quiet, sample, after, times}
 
 -- the example's settings in mode 1, where the command is the control level: low at most 300, high at least 400
 abbrev pub settings1 : List ℕ
-settings1 =
-    1 ∷ 65535 ∷ 3000 ∷ 1000 ∷ 3500 ∷ 3500 ∷ 100 ∷ 800 ∷ 100 ∷ 0 ∷ 600 ∷ 64 ∷
-    4095 ∷ 7 ∷ 3 ∷ 0 ∷ 300 ∷ 0 ∷ 0 ∷ 0 ∷ 400 ∷ 300 ∷ 4096 ∷ 2 ∷ []
+settings1 = settingsIn 1
 
 -- a low, and a high
 abbrev pub low : Call
@@ -33,21 +24,7 @@ trip = ticks (quiet 1 400 3001)
 
 -- a clear, the command still high
 abbrev pub clear : Call
-clear =
-    ticks
-    (record {
-      kill = 0;
-      clear = 1;
-      command = 1;
-      control = 400;
-      raw = 2623;
-      filtered = 2623;
-      temperature = 1000;
-      flux = 2048;
-      torque = pos 0;
-      speed = pos 0;
-      target = pos 0;
-    })
+clear = ticks (told 1 1 400 2623 0 0)
 
 -- load, measure the offsets over 64 cycles, let the command be low, raise it, charge for three cycles, and go on to MOTORRUN
 abbrev pub raised : List ℕ → List Call

@@ -24,15 +24,18 @@ after first [] p = p
 after first (x ∷ []) p = first
 after first (x ∷ y ∷ rest) p = pick (eqb p x) y (after first (y ∷ rest) p)
 
+-- "Next or previous" of a pattern
 abbrev pub next : ℕ → ℕ
 next p = after 1 clockwise p
 
 abbrev pub previous : ℕ → ℕ
 previous p = after 5 (reverse clockwise) p
 
+-- a pattern of 1..6 and the two beside it: "with none kept"; "Same as kept"; it is the next of the kept one, or the previous; "Another of 1..6"
 unfoldable pub beside : ℕ → ℕ → ℕ → Kept → Fate
-beside a p b Nothing = First
-beside a p b (Pattern k) = pick (eqb k p) Same (pick (eqb k a) Forward (pick (eqb k b) Back Stray))
+beside behind p ahead Nothing = First
+beside behind p ahead (Pattern k) = pick (eqb k p) Same (pick (eqb k behind) Forward (pick (eqb k ahead) Back Stray))
 
+-- "Each pattern from 0 to 7 falls in one group": "0 or 7", which are not in the order, is dead
 unfoldable pub fate : ℕ → Kept → Fate
 fate p kept = pick (among clockwise p) (beside (previous p) p (next p) kept) Dead
