@@ -7,7 +7,7 @@ use lib.IntN.{natAbs}
 use Rattle.numbers.specs.Choose.{pick}
 use Rattle.history.proofs.Bools.{or-right}
 use Rattle.drive.specs.State.{is, turning}
-use Rattle.drive.specs.Settings
+use Rattle.settings.specs.Settings
 use Rattle.drive.specs.Command.{mode1}
 use Rattle.drive.specs.Offsets.{samples}
 use Rattle.drive.specs.Moves.{nth, own, moveOf}

@@ -17,18 +17,20 @@ use Rattle.history.proofs.Bools.{computed, or-right}
 use Rattle.history.proofs.Stays.{stays}
 use Rattle.history.proofs.Demand3.{demand3}
 use Rattle.drive.specs.State.{is}
-use Rattle.drive.specs.Settings.{FaultEnable, RetryLimit, CmdStart, CmdStop}
+use Rattle.settings.specs.Settings.{FaultEnable, RetryLimit, CmdStart, CmdStop}
 use Rattle.drive.specs.Command.{low, high, mode1}
 use Rattle.drive.specs.Flags.{any}
 use Rattle.drive.specs.Answer.{alive, answer}
-use Rattle.drive.specs.Refusals.{Row, row, indices, lowest, highest, verdict, loadRows, cycleRows, tickRows, tickFields, settingRows, settingRow, rule}
+use Rattle.verdicts.specs.Table.{Row, row, verdict}
+use Rattle.settings.specs.Rules.{indices, lowest, highest, settingRows, settingRow, rule}
+use Rattle.drive.specs.Refusals.{loadRows, cycleRows, tickRows, tickFields}
 use Rattle.drive.specs.Calls.{powerUp, fresh, settle, cycled, ticked, sample, standing, alight}
 use Rattle.drive.specs.Calls
 use Rattle.drive.specs.Sequence.{Call, loads, cycles, ticks, reply}
 use Rattle.drive.specs.declared.Drive.{Drive}
 use Rattle.drive.specs.declared.Cycle.{Cycle}
 use Rattle.drive.specs.declared.Tick.{Tick}
-use Rattle.drive.specs.declared.refusals.Verdict.{Verdict}
+use Rattle.verdicts.specs.declared.Verdict.{Verdict}
 use Rattle.drive.specs.declared.state.State.{State}
 use Rattle.drive.specs.declared.state.State.the-variants.{Idle, Stop, OffsetCal, BtsCharge, MotorRun, Fault, CatchSpin, Parking, OpenLoop, AngleSensing}
 use Rattle.demands.specs.Supervised.{supervisor, placeOf, kindOf, causeOf, turns, accepted}

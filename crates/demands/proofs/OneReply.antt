@@ -10,6 +10,9 @@ use mir.Syntax.{w16}
 use mir.Val.{toZ}
 use Rattle.numbers.specs.Count.{up}
 use Rattle.numbers.specs.Limit.{limit}
+use Rattle.verdicts.specs.Table.{Row, accepted, first, verdict}
+use Rattle.verdicts.specs.declared.Verdict.{Verdict}
+use Rattle.settings.specs.Rules.{settingRows}
 use Rattle.hall.specs.Fate.{fate}
 use Rattle.hall.specs.Sample.{poweredUp, sampled}
 use Rattle.hall.specs.declared.Hall.{Hall}
@@ -56,6 +59,17 @@ absolute number = settled (natAbs number)
 
 pub limited : (number : ℤ) → Settled (limit number)
 limited number = settled (limit number)
+
+-- verdicts
+pub verdicts-accepted : Settled accepted
+verdicts-accepted = settled accepted
+
+pub verdicts-first : (r : Row) (later : Verdict) → Settled (first r later)
+verdicts-first r later = settled (first r later)
+
+-- settings
+pub settings-verdict : (numbers : List ℕ) → Settled (verdict (settingRows numbers))
+settings-verdict numbers = settled (verdict (settingRows numbers))
 
 -- hall
 pub judged : (pattern : ℕ) (kept : Kept) → Settled (fate pattern kept)

@@ -8,7 +8,8 @@ use Rattle.numbers.specs.Choose.{pick}
 use Rattle.drive.specs.Answer
 use Rattle.drive.specs.Answer.{answer}
 use Rattle.drive.specs.Causes
-use Rattle.drive.specs.Refusals.{Row, verdict, loadRows, cycleRows, tickRows}
+use Rattle.verdicts.specs.Table.{Row, verdict}
+use Rattle.drive.specs.Refusals.{loadRows, cycleRows, tickRows}
 use Rattle.drive.specs.Calls
 use Rattle.drive.specs.Calls.{settle}
 use Rattle.drive.specs.Sequence.{Call, loads, cycles, ticks, reply}
@@ -20,7 +21,7 @@ use Rattle.drive.specs.declared.run.Watched.{Watched}
 use Rattle.drive.specs.declared.moves.Move.{Move}
 use Rattle.drive.specs.declared.moves.Move.the-variants.{Stay, Enter, Measure, Clear, Retry}
 use Rattle.drive.specs.declared.answer.Reply.{Reply}
-use Rattle.drive.specs.declared.refusals.Verdict.{Verdict}
+use Rattle.verdicts.specs.declared.Verdict.{Verdict}
 
 -- the table of refusals of a call
 abbrev pub rows : Drive → Call → List Row

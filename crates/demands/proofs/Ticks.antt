@@ -12,7 +12,7 @@ use Rattle.history.specs.Onlooker.{Place, atStop, atStart, atRun, atFault, else
 use Rattle.history.specs.Laws.{Inside, Step}
 use Rattle.hall.specs.declared.Hall.{Hall}
 use Rattle.drive.specs.State.{is, turning}
-use Rattle.drive.specs.Settings.{FaultEnable, RetryLimit, CmdStart, CmdStop}
+use Rattle.settings.specs.Settings.{FaultEnable, RetryLimit, CmdStart, CmdStop}
 use Rattle.drive.specs.Flags.{any, live, none}
 use Rattle.drive.specs.Command.{low, high, mode1}
 use Rattle.drive.specs.Answer.{alive, gate}

@@ -6,7 +6,7 @@ use lib.Dec.{eqb}
 use Rattle.numbers.specs.Choose.{pick}
 use Rattle.history.specs.Onlooker.{Place, atStop, atStart, atRun, atFault, elsewhere, Kind, load, tick, other}
 use Rattle.history.specs.Supervisor.{Supervisor}
-use Rattle.drive.specs.Settings.{RetryLimit}
+use Rattle.settings.specs.Settings.{RetryLimit}
 use Rattle.drive.specs.Command.{low}
 use Rattle.drive.specs.Flags.{any}
 use Rattle.drive.specs.Answer.{alive, gate}

@@ -6,7 +6,7 @@ use lib.Signed.{quotZ}
 use Rattle.numbers.specs.Choose.{pick}
 use Rattle.numbers.specs.Limit.{limit}
 use Rattle.drive.specs.State.{numberOf, is, turning}
-use Rattle.drive.specs.Settings.{FaultEnable}
+use Rattle.settings.specs.Settings.{FaultEnable}
 use Rattle.drive.specs.Flags.{live, any, word}
 use Rattle.drive.specs.declared.Drive.{Drive}
 use Rattle.drive.specs.declared.state.State.{State}

@@ -13,7 +13,7 @@ use Rattle.hall.specs.Sample.{sampled, poweredUp}
 use Rattle.hall.specs.declared.Hall.{Hall}
 use Rattle.hall.specs.declared.Sampled.{Sampled}
 use Rattle.drive.specs.State.{is}
-use Rattle.drive.specs.Settings.{FaultEnable, HallAngleOffset, OffsetPsc, RetryLimit}
+use Rattle.settings.specs.Settings.{FaultEnable, HallAngleOffset, OffsetPsc, RetryLimit}
 use Rattle.drive.specs.Flags.{none, either, live, withHall, any}
 use Rattle.drive.specs.Command.{low, high}
 use Rattle.drive.specs.Offsets.{samples, unmeasured, added, measuredBy, cleared}
@@ -21,7 +21,8 @@ use Rattle.drive.specs.Run.{still}
 use Rattle.drive.specs.Reference.{times2048, ramped}
 use Rattle.drive.specs.Causes.{watch, causes}
 use Rattle.drive.specs.Moves.{nth, moveOf}
-use Rattle.drive.specs.Refusals.{verdict, loadRows, cycleRows, tickRows}
+use Rattle.verdicts.specs.Table.{verdict}
+use Rattle.drive.specs.Refusals.{loadRows, cycleRows, tickRows}
 use Rattle.drive.specs.Answer.{reply}
 use Rattle.drive.specs.declared.Drive.{Drive}
 use Rattle.drive.specs.declared.Cycle.{Cycle}
@@ -34,7 +35,7 @@ use Rattle.drive.specs.declared.run.Run.{Run}
 use Rattle.drive.specs.declared.run.Watched.{Watched}
 use Rattle.drive.specs.declared.moves.Move.{Move}
 use Rattle.drive.specs.declared.moves.Move.the-variants.{Stay, Enter, Measure, Clear, Retry}
-use Rattle.drive.specs.declared.refusals.Verdict.{Verdict}
+use Rattle.verdicts.specs.declared.Verdict.{Verdict}
 use Rattle.drive.specs.declared.answer.Reply.{Reply}
 
 -- everything "to power-up values: flags, position, pattern, offsets and arming", but state and settings

@@ -3,7 +3,7 @@ use Prim.Native.Nat.{ℕ}
 use mathlib.Core.Bool.{Bool, _&&_}
 use lib.Dec.{eqb, ltb}
 use Rattle.drive.specs.State.{is}
-use Rattle.drive.specs.Settings.{VdcOvLevel, VdcLvLevel, CriticalOvLevel, Tshutdown}
+use Rattle.settings.specs.Settings.{VdcOvLevel, VdcLvLevel, CriticalOvLevel, Tshutdown}
 use Rattle.drive.specs.Run.{watched}
 use Rattle.drive.specs.declared.Drive.{Drive}
 use Rattle.drive.specs.declared.Tick.{Tick}

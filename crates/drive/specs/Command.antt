@@ -4,7 +4,7 @@ use mathlib.Core.Bool.{Bool}
 use mathlib.Core.List.{List}
 use lib.Dec.{eqb, leb}
 use Rattle.numbers.specs.Choose.{pick}
-use Rattle.drive.specs.Settings.{ControlMode, CmdStart, CmdStop}
+use Rattle.settings.specs.Settings.{ControlMode, CmdStart, CmdStop}
 use Rattle.drive.specs.declared.Tick.{Tick}
 
 abbrev pub mode1 : List ℕ → Bool

@@ -1,6 +1,5 @@
 pub mod State
 pub mod Flags
-pub mod Settings
 pub mod Command
 pub mod Offsets
 pub mod Run

@@ -6,7 +6,7 @@ use lib.Dec.{ltb}
 use lib.IntN.{ℤ, pos, negℤ, natAbs, _+ℤ_, _-ℤ_, _*ℤ_}
 use lib.Signed.{ltZ}
 use Rattle.numbers.specs.Choose.{pick}
-use Rattle.drive.specs.Settings.{MinSpd, SpdRampRate, CmdStart, CmdGain}
+use Rattle.settings.specs.Settings.{MinSpd, SpdRampRate, CmdStart, CmdGain}
 use Rattle.drive.specs.Command.{mode1}
 use Rattle.drive.specs.declared.Tick.{Tick}
 

@@ -6,7 +6,7 @@ use lib.Dec.{eqb, ltb, leb}
 use lib.IntN.{ℤ, pos, natAbs}
 use Rattle.numbers.specs.Choose.{pick}
 use Rattle.numbers.specs.Count.{up}
-use Rattle.drive.specs.Settings.{FluxFaultTime, RotorLockTime, HallTimeoutPeriod, MinSpd, MotorLim}
+use Rattle.settings.specs.Settings.{FluxFaultTime, RotorLockTime, HallTimeoutPeriod, MinSpd, MotorLim}
 use Rattle.drive.specs.declared.Tick.{Tick}
 use Rattle.drive.specs.declared.run.Slots.{Slots}
 use Rattle.drive.specs.declared.run.Run.{Run}

@@ -7,7 +7,6 @@ use crate::answer::replied;
 use crate::flags::Flags;
 use crate::offsets::Offsets;
 use crate::offsets::samples;
-use crate::refusals::settings_verdict;
 use crate::run::Run;
 use crate::state::State;
 use crate::state::number;
@@ -80,7 +79,7 @@ impl Drive {
             return replied(self, 2, 0);
         }
         let settings = copied(numbers);
-        let verdict = settings_verdict(settings);
+        let verdict = settings::verdict(settings);
         if verdict.number != 0 {
             return replied(self, verdict.number, verdict.place);
         }

@@ -8,7 +8,7 @@ pub mod flags;
 pub mod moves;
 pub mod offsets;
 mod reference;
-pub mod refusals;
+mod refusals;
 pub mod run;
 pub mod state;
 mod ticks;

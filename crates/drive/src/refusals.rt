@@ -1,125 +1,14 @@
-// The refusals: which number and place a call is refused with, 0 where it is accepted.
+// The refusals of a cycle and a tick: which number and place, 0 where it is accepted.
 use crate::Cycle;
 use crate::Drive;
 use crate::Tick;
-use crate::choose::pick_bool;
 use crate::state::number;
+use verdicts::Verdict;
+use verdicts::accepted;
+use verdicts::first;
 ghost use mathlib.Core.Path.{_≡_};
-ghost use Prim.Native.Nat.{_<_, _+_};
-ghost use Rattle.numbers.specs.Choose.{pick};
-ghost use Rattle.drive.specs.Refusals.{accepted, verdict, cycleRows, tickFields, tickRows, related, rule, settingRows};
-
-pub struct Verdict {
-    pub number: u8,
-    pub place: u8,
-}
-
-pub(crate) fn accepted() -> Verdict
-    ensures { λ r. ⌜ r ≡ accepted ⌝ }
-{
-    Verdict {
-        number: 0,
-        place: 0,
-    }
-}
-
-// A row of the table before the later ones.
-fn first(number: u8, place: u8, holds: bool, later: Verdict) -> Verdict
-    ensures { λ r. ⌜ r ≡ pick holds (record { number = number; place = place }) later ⌝ }
-{
-    if holds {
-        Verdict { number, place }
-    } else {
-        later
-    }
-}
-
-// The lowest and the highest value of each setting.
-const LOWEST: [u16; 24] = [
-    0,
-    0,
-    0,
-    0,
-    0,
-    0,
-    1,
-    1,
-    1,
-    0,
-    0,
-    0,
-    1,
-    0,
-    0,
-    0,
-    0,
-    0,
-    0,
-    0,
-    0,
-    0,
-    0,
-    0,
-];
-
-const HIGHEST: [u16; 24] = [
-    1,
-    65535,
-    4095,
-    4095,
-    4095,
-    4095,
-    65535,
-    65535,
-    65535,
-    65535,
-    16383,
-    32767,
-    4095,
-    7,
-    65535,
-    65535,
-    16383,
-    255,
-    65535,
-    65535,
-    4095,
-    4095,
-    65535,
-    100,
-];
-
-fn related(settings: [u16; 24], place: usize) -> bool
-    ensures { λ r. ⌜ r ≡ related settings place ⌝ }
-{
-    let stop = pick_bool(place == 22, settings[21] < settings[20], true);
-    let critical = pick_bool(place == 5, settings[2] <= settings[4], stop);
-    pick_bool(place == 4, settings[3] < settings[2], critical)
-}
-
-fn rule(settings: [u16; 24], i: usize) -> bool
-    requires { ⌜ i < 24 ⌝ }
-    ensures { λ r. ⌜ r ≡ rule settings i ⌝ }
-{
-    let value = settings[i];
-    (LOWEST[i] <= value) & (value <= HIGHEST[i]) & related(settings, i + 1)
-}
-
-pub(crate) fn settings_verdict(settings: [u16; 24]) -> Verdict
-    ensures { λ r. ⌜ r ≡ verdict (settingRows settings) ⌝ }
-{
-    let mut i: usize = 0;
-    while i < 24 {
-        if !rule(settings, i) {
-            return Verdict {
-                number: 2,
-                place: (i + 1) as u8,
-            };
-        }
-        i += 1;
-    }
-    accepted()
-}
+ghost use Rattle.verdicts.specs.Table.{verdict};
+ghost use Rattle.drive.specs.Refusals.{cycleRows, tickFields, tickRows};
 
 impl Drive {
     // The rows stand from the last to the first, so that the first that holds is left.

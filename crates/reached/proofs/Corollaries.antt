@@ -11,7 +11,7 @@ use mir.Facts.{T-not, not-T, leb-yes, ltb-yes, eqb-yes}
 use Rattle.numbers.specs.Limit.{limit}
 use Rattle.numbers.specs.Choose.{pick}
 use Rattle.drive.specs.State.{numberOf, is, turning}
-use Rattle.drive.specs.Settings.{OffsetPsc, CmdStart, CmdStop}
+use Rattle.settings.specs.Settings.{OffsetPsc, CmdStart, CmdStop}
 use Rattle.drive.specs.Flags.{none, any}
 use Rattle.drive.specs.Command.{mode1, low, high}
 use Rattle.drive.specs.Offsets.{samples, added}

@@ -9,8 +9,9 @@ use mir.Facts.{T-not, ltb-no}
 use mir.Syntax.{w16}
 use mir.Val.{toZ}
 use Rattle.drive.specs.State.{is}
-use Rattle.drive.specs.Settings.{FaultEnable, HallAngleOffset}
-use Rattle.drive.specs.Refusals.{verdict, loadRows, cycleRows, tickRows}
+use Rattle.settings.specs.Settings.{FaultEnable, HallAngleOffset}
+use Rattle.verdicts.specs.Table.{verdict}
+use Rattle.drive.specs.Refusals.{loadRows, cycleRows, tickRows}
 use Rattle.drive.specs.Calls as Drives
 use Rattle.drive.specs.Calls.{powerUp, fresh, sample, cycled, ticked}
 use Rattle.drive.specs.declared.Drive.{Drive}

@@ -7,7 +7,7 @@ use lib.IntN.{natAbs}
 use mir.Facts.{T-not-not, and-yes, leb-yes, ltb-yes, eqb-yes}
 use Rattle.numbers.specs.Choose.{pick}
 use Rattle.drive.specs.State.{is, turning}
-use Rattle.drive.specs.Settings
+use Rattle.settings.specs.Settings
 use Rattle.drive.specs.Command.{mode1}
 use Rattle.drive.specs.Offsets.{samples}
 use Rattle.drive.specs.Moves.{nth, own, moveOf}

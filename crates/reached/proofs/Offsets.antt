@@ -9,7 +9,7 @@ use lib.Pow.{pow-mono}
 use mir.Facts.{and-yes, ltb-yes}
 use Rattle.numbers.specs.Count.{up}
 use Rattle.drive.specs.State.{is}
-use Rattle.drive.specs.Settings.{OffsetPsc}
+use Rattle.settings.specs.Settings.{OffsetPsc}
 use Rattle.drive.specs.Offsets.{samples, unmeasured, added, measuredBy, cleared}
 use Rattle.drive.specs.Calls.{summed}
 use Rattle.drive.specs.declared.Drive.{Drive}

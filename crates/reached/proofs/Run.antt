@@ -11,7 +11,7 @@ use lib.Signed.{leZ, ltZ}
 use mir.Facts.{eqb-no}
 use Rattle.numbers.specs.Count.{up}
 use Rattle.numbers.proofs.Order.{below-is-at-most, goes-up, goes-down}
-use Rattle.drive.specs.Settings.{FluxFaultTime, MinSpd, SpdRampRate, CmdStart, CmdGain}
+use Rattle.settings.specs.Settings.{FluxFaultTime, MinSpd, SpdRampRate, CmdStart, CmdGain}
 use Rattle.drive.specs.Command.{mode1}
 use Rattle.drive.specs.Run.{still, slotLength, badFlux, locked, ends, nextSlots, lasting, watched}
 use Rattle.drive.specs.Reference.{times2048, target0, target1, targetOf, toward}

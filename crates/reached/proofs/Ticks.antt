@@ -9,7 +9,7 @@ use lib.IntN.{natAbs}
 use mir.Facts.{T-not, not-T, and-yes, or-yes}
 use Rattle.numbers.specs.Count.{up}
 use Rattle.drive.specs.State.{is, turning}
-use Rattle.drive.specs.Settings.{FaultEnable, OffsetPsc, RetryLimit}
+use Rattle.settings.specs.Settings.{FaultEnable, OffsetPsc, RetryLimit}
 use Rattle.drive.specs.Flags.{none}
 use Rattle.drive.specs.Command.{low, high}
 use Rattle.drive.specs.Offsets.{samples, measuredBy}

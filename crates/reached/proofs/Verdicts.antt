@@ -10,10 +10,12 @@ use lib.ListN.{length, getD}
 use mir.Facts.{T-not-not, and-yes, eqb-yes}
 use Rattle.numbers.specs.Choose.{pick}
 use Rattle.numbers.proofs.Table.{both, both-left, both-right, at}
-use Rattle.drive.specs.Refusals.{Row, verdict, rule, related, indices, lowest, highest, settingRow, settingRows, loadRows}
+use Rattle.verdicts.specs.Table.{Row, verdict}
+use Rattle.settings.specs.Rules.{rule, related, indices, lowest, highest, settingRow, settingRows}
+use Rattle.drive.specs.Refusals.{loadRows}
 use Rattle.drive.specs.Calls.{settle}
 use Rattle.drive.specs.declared.Drive.{Drive}
-use Rattle.drive.specs.declared.refusals.Verdict.{Verdict}
+use Rattle.verdicts.specs.declared.Verdict.{Verdict}
 use Rattle.drive.specs.declared.answer.Reply.{Reply}
 use Rattle.reached.specs.Reached.{Loaded}
 use Rattle.reached.proofs.Choices.{by-test}

@@ -13,10 +13,10 @@ use Rattle.hall.specs.declared.Hall.{Hall}
 use Rattle.hall.specs.declared.fate.Kept.{Kept}
 use Rattle.hall.specs.declared.fate.Kept.the-variants.{Nothing, Pattern}
 use Rattle.drive.specs.State.{is, turning}
-use Rattle.drive.specs.Settings.{FluxFaultTime, RotorLockTime, HallTimeoutPeriod, OffsetPsc, RetryLimit}
+use Rattle.settings.specs.Settings.{FluxFaultTime, RotorLockTime, HallTimeoutPeriod, OffsetPsc, RetryLimit}
 use Rattle.drive.specs.Offsets.{samples, zero}
 use Rattle.drive.specs.Run as Runs
-use Rattle.drive.specs.Refusals.{rule}
+use Rattle.settings.specs.Rules.{rule}
 use Rattle.drive.specs.Calls.{powerUp, alight}
 use Rattle.drive.specs.declared.Drive.{Drive}
 use Rattle.drive.specs.declared.flags.Flags.{Flags}

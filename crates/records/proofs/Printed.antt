@@ -11,13 +11,15 @@ use Rattle.numbers.specs.Choose.{pick}
 use Rattle.drive.specs.State.{numberOf, is, turning}
 use Rattle.drive.specs.Flags.{any}
 use Rattle.drive.specs.Answer.{gate, alive, answer, reply}
-use Rattle.drive.specs.Refusals.{Row, told, verdict, loadRows, cycleRows, tickRows, settingRows}
+use Rattle.verdicts.specs.Table.{Row, told, verdict}
+use Rattle.settings.specs.Rules.{settingRows}
+use Rattle.drive.specs.Refusals.{loadRows, cycleRows, tickRows}
 use Rattle.drive.specs.Calls.{settle, load, cycle, cycled, tick, ticked}
 use Rattle.drive.specs.declared.Drive.{Drive}
 use Rattle.drive.specs.declared.state.State.{State}
 use Rattle.drive.specs.declared.state.State.the-variants.{Idle, Stop, OffsetCal, BtsCharge, MotorRun, Fault, CatchSpin, Parking, OpenLoop, AngleSensing}
 use Rattle.drive.specs.declared.flags.Flags.{Flags}
-use Rattle.drive.specs.declared.refusals.Verdict.{Verdict}
+use Rattle.verdicts.specs.declared.Verdict.{Verdict}
 use Rattle.report.specs.Refusals.{lineLength, accepts}
 use Rattle.report.proofs.Accepted.{accepted}
 

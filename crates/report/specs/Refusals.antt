@@ -3,7 +3,7 @@ use Prim.Native.Nat.{ℕ}
 use mathlib.Core.Bool.{Bool}
 use mathlib.Core.List.{List, [], _∷_}
 use lib.Dec.{eqb, ltb}
-use Rattle.drive.specs.Refusals.{Row, row, verdict}
+use Rattle.verdicts.specs.Table.{Row, row, verdict}
 use Rattle.drive.specs.declared.answer.Answer.{Answer}
 use Rattle.report.specs.declared.Told.{Told}
 

@@ -25,7 +25,7 @@ returns-3 c =
       c .before .before .before .before .before .before .if1 .left,
       eq-eqb _ _ (c .before .before .before .before .before .if2 .left),
       ← c .before .before .before .before .copied .ensures,
-      ← c .before .before .before .settings-verdict .ensures,
+      ← c .before .before .before .verdict .ensures,
       ne-eqb _ _ (c .before .if3 .taken),
     )
     (c .replied3 .ensures)
@@ -38,7 +38,7 @@ returns-4 c =
       c .before .before .before .before .before .before .before .if1 .left,
       eq-eqb _ _ (c .before .before .before .before .before .before .if2 .left),
       ← c .before .before .before .before .before .copied .ensures,
-      ← c .before .before .before .before .settings-verdict .ensures,
+      ← c .before .before .before .before .verdict .ensures,
       eq-eqb _ _ (c .before .before .if3 .left),
       ← c .before .fresh .ensures,
     )

@@ -2,7 +2,7 @@
 use Prim.Native.Nat.{_-_}
 use lib.Pow.{pow-pos}
 use borrow.Author.Needs.{needs}
-use Rattle.drive.specs.Settings.{OffsetPsc}
+use Rattle.settings.specs.Settings.{OffsetPsc}
 use Rattle.drive.proofs.Drive.measured.Statement.{statement}
 use Rattle.drive.proofs.Drive.measured.Tie as tie
 

@@ -1,4 +1,4 @@
--- `settings_verdict` walks the rows from the first: what the rows from `i` on say is what all of them say.
+-- `verdict` walks the rows from the first: what the rows from `i` on say is what all of them say.
 use mathlib.Core.Path.{_≡_, refl, sym, ap, _∙_}
 use mathlib.Core.Bool.{Bool, not}
 use mathlib.Core.List.{List, [], _∷_, map}
@@ -12,10 +12,11 @@ use borrow.Author.Needs.{needs}
 use borrow.Author.Tests.{not-false}
 use Rattle.numbers.specs.Choose.{pick}
 use Rattle.numbers.proofs.Table.{at}
-use Rattle.drive.specs.Refusals.{verdict, indices, rule, settingRow, settingRows}
-use Rattle.drive.specs.declared.refusals.Verdict.{Verdict}
-use Rattle.drive.proofs.refusals.settings_verdict.Statement.{statement}
-use Rattle.drive.proofs.refusals.settings_verdict.Tie as tie
+use Rattle.verdicts.specs.Table.{verdict}
+use Rattle.settings.specs.Rules.{indices, rule, settingRow, settingRows}
+use Rattle.verdicts.specs.declared.Verdict.{Verdict}
+use Rattle.settings.proofs.verdict.Statement.{statement}
+use Rattle.settings.proofs.verdict.Tie as tie
 
 -- what the rows from the i-th on say
 abbrev from : List ℕ → ℕ → Verdict
@@ -59,8 +60,8 @@ returns-2 c =
     let end : c .before .before .loop .i ≡ 24 = omega (arith, c .before .before .loop .inv .0, c .before .loop-test .left) in
     rw (c .before .before .loop .inv .1, end) (c .accepted .ensures)
 
-pub settings-verdict-spec : {M : Type 1} → statement M
-settings-verdict-spec =
+pub verdict-spec : {M : Type 1} → statement M
+verdict-spec =
     tie.close
     (tie.spec
     Inv-loop

@@ -1,7 +1,7 @@
 -- `rule` reads both tables of limits at the setting's index.
 use borrow.Author.Needs.{needs}
-use Rattle.drive.proofs.refusals.rule.Statement.{statement}
-use Rattle.drive.proofs.refusals.rule.Tie as tie
+use Rattle.settings.proofs.rule.Statement.{statement}
+use Rattle.settings.proofs.rule.Tie as tie
 
 returns : tie.Need-returns
 returns c =

@@ -1,7 +1,7 @@
 -- `first` is one row of the table: it wins where it holds.
 use borrow.Author.Needs.{needs}
-use Rattle.drive.proofs.refusals.first.Statement.{statement}
-use Rattle.drive.proofs.refusals.first.Tie as tie
+use Rattle.verdicts.proofs.first.Statement.{statement}
+use Rattle.verdicts.proofs.first.Tie as tie
 
 returns : tie.Need-returns
 returns c =

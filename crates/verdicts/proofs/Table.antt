@@ -6,8 +6,8 @@ use mathlib.Core.Logic.{_↔_}
 use Prim.Native.Nat.{ℕ}
 use lib.Dec.{T}
 use Rattle.numbers.specs.Choose.{pick}
-use Rattle.drive.specs.Refusals.{Row, told, verdict, accepted, First, here, later}
-use Rattle.drive.specs.declared.refusals.Verdict.{Verdict}
+use Rattle.verdicts.specs.Table.{Row, told, verdict, accepted, First, here, later}
+use Rattle.verdicts.specs.declared.Verdict.{Verdict}
 
 -- a row that is the first to hold gives the verdict
 first-given : {rows : List Row} {r : Row} → First rows r → verdict rows ≡ told r

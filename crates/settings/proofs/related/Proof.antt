@@ -1,0 +1,34 @@
+-- `related` asks for each of the three relations at the setting that states it.
+use borrow.Author.Needs.{needs}
+use borrow.Author.Tests.{ne-eqb}
+use Rattle.settings.proofs.related.Statement.{statement}
+use Rattle.settings.proofs.related.Tie as tie
+
+returns : tie.Need-returns
+returns c = simp (c .match .keys1)
+
+returns-2 : tie.Need-returns-2
+returns-2 c = simp (c .match .keys2)
+
+returns-3 : tie.Need-returns-3
+returns-3 c = simp (c .match .keys3)
+
+returns-4 : tie.Need-returns-4
+returns-4 c =
+    let others = c .match .rest in
+    simp (ne-eqb _ _ (others .0 .0 .1), ne-eqb _ _ (others .0 .1), ne-eqb _ _ (others .1))
+
+pub related-spec : {M : Type 1} → statement M
+related-spec =
+    tie.close
+    (tie.spec
+    (λ c. search needs)
+    (λ c. search needs)
+    (λ c. search needs)
+    (λ c. search needs)
+    (λ c. search needs)
+    (λ c. search needs)
+    returns
+    returns-2
+    returns-3
+    returns-4)
