@@ -1,7 +1,6 @@
 -- Every move that a tick can make, with what demand 3 has to know of it: who may trip, stop, calibrate, start, run on, and leave FAULT.
-use mathlib.Core.Path.{_≡_, refl}
 use mathlib.Core.Bool.{Bool, true, false, not, _&&_, _||_}
-use Prim.Native.Nat.{ℕ, _<_, _*_}
+use Prim.Native.Nat.{_<_, _*_}
 use lib.Dec.{T, eqb, leb, ltb, ltb→lt}
 use lib.IntN.{natAbs}
 use Rattle.numbers.specs.Choose.{pick}
@@ -10,7 +9,7 @@ use Rattle.drive.specs.State.{is, turning}
 use Rattle.settings.specs.Settings
 use Rattle.drive.specs.Command.{mode1}
 use Rattle.drive.specs.Offsets.{samples}
-use Rattle.drive.specs.Moves.{nth, own, moveOf}
+use Rattle.drive.specs.Moves.{nth, own}
 use Rattle.drive.specs.declared.Drive.{Drive}
 use Rattle.drive.specs.declared.Tick.{Tick}
 use Rattle.drive.specs.declared.state.State.{State}

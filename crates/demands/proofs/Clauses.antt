@@ -1,7 +1,7 @@
 -- The clauses of demand 3, one by one, of this drive after any calls and one more.
 use mathlib.Core.Bool.{Bool, true, false, not, _&&_, _||_}
 use mathlib.Core.List.{List, _∷_}
-use Prim.Native.Nat.{ℕ, _≤_}
+use Prim.Native.Nat.{_≤_}
 use lib.Dec.{T, leb→le}
 use Rattle.history.specs.History.{Seen, holds, holdsAfter, gatesRule, exitRule, retryRule, running, startTaken, permitted, beforeStart, lowSince, retrySince, everLoaded, exited, retries, loadedLimit, whenever}
 use Rattle.history.specs.Supervisor.{seen, stateAfter, history}

@@ -1,18 +1,18 @@
 -- This drive obeys the laws of demand 3 at every call, and so demand 3 holds of every sequence of its calls.
-use mathlib.Core.Path.{_≡_, refl, sym, ap, subst}
+use mathlib.Core.Path.{_≡_, refl}
 use mathlib.Core.Bool.{Bool, true, false, not, _&&_, _||_}
 use mathlib.Core.List.{List, [], _∷_, map}
-use Prim.Native.Nat.{ℕ, zero, suc, _+_, _≤_, _<_}
+use Prim.Native.Nat.{ℕ, zero, suc, _+_, _<_}
 use native.Mathlib.Nat.{not-suc-le-zero, le-of-suc-le-suc}
 use native.Mathlib.Omega.{arith}
 use lib.Dec.{T, eqb, ltb, leb, ltb→lt, leb→le, eqb→eq, lit<, not-T}
 use lib.ListN.{length, getD}
 use borrow.Author.Tests.{eqb-false}
 use Rattle.numbers.specs.Choose.{pick}
-use Rattle.history.specs.Onlooker.{Place, atStop, atStart, atRun, atFault, elsewhere, Kind, load, tick, other, noted, isStartOrRun}
+use Rattle.history.specs.Onlooker.{atStop, Kind, load, tick, other, noted, isStartOrRun}
 use Rattle.history.specs.Supervisor.{seen, history}
 use Rattle.history.specs.History.{Demand3}
-use Rattle.history.specs.Laws.{Inside, Step, Lawful, Asleep}
+use Rattle.history.specs.Laws.{Inside, Step, Lawful}
 use Rattle.history.proofs.Bools.{computed, or-right}
 use Rattle.history.proofs.Stays.{stays}
 use Rattle.history.proofs.Demand3.{demand3}
@@ -24,7 +24,7 @@ use Rattle.drive.specs.Answer.{alive, answer}
 use Rattle.verdicts.specs.Table.{Row, row, verdict}
 use Rattle.settings.specs.Rules.{indices, lowest, highest, settingRows, settingRow, rule}
 use Rattle.drive.specs.Refusals.{loadRows, cycleRows, tickRows, tickFields}
-use Rattle.drive.specs.Calls.{powerUp, fresh, settle, cycled, ticked, sample, standing, alight}
+use Rattle.drive.specs.Calls.{fresh, settle, cycled, ticked, sample, standing, alight}
 use Rattle.drive.specs.Calls
 use Rattle.drive.specs.Sequence.{Call, loads, cycles, ticks, reply}
 use Rattle.drive.specs.declared.Drive.{Drive}
@@ -33,7 +33,7 @@ use Rattle.drive.specs.declared.Tick.{Tick}
 use Rattle.verdicts.specs.declared.Verdict.{Verdict}
 use Rattle.drive.specs.declared.state.State.{State}
 use Rattle.drive.specs.declared.state.State.the-variants.{Idle, Stop, OffsetCal, BtsCharge, MotorRun, Fault, CatchSpin, Parking, OpenLoop, AngleSensing}
-use Rattle.demands.specs.Supervised.{supervisor, placeOf, kindOf, causeOf, turns, accepted}
+use Rattle.demands.specs.Supervised.{supervisor, placeOf, turns}
 use Rattle.demands.proofs.Gates.{hall-alive}
 use Rattle.demands.proofs.Ticks.{inside, asks, tick-obeys, tick-keeps}
 

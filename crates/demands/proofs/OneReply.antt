@@ -16,8 +16,6 @@ use Rattle.settings.specs.Rules.{settingRows}
 use Rattle.hall.specs.Fate.{fate}
 use Rattle.hall.specs.Sample.{poweredUp, sampled}
 use Rattle.hall.specs.declared.Hall.{Hall}
-use Rattle.hall.specs.declared.Sampled.{Sampled}
-use Rattle.hall.specs.declared.fate.Fate.{Fate}
 use Rattle.hall.specs.declared.fate.Kept.{Kept}
 use Rattle.drive.specs.Answer.{answer}
 use Rattle.drive.specs.Calls.{powerUp, load, cycle, tick}
@@ -25,16 +23,12 @@ use Rattle.drive.specs.declared.Drive.{Drive}
 use Rattle.drive.specs.declared.Cycle.{Cycle}
 use Rattle.drive.specs.declared.Tick.{Tick}
 use Rattle.drive.specs.declared.answer.Answer.{Answer}
-use Rattle.drive.specs.declared.answer.Reply.{Reply}
 use Rattle.report.specs.Refusals.{told}
 use Rattle.report.specs.Line.{written}
-use Rattle.report.specs.declared.Told.{Told}
 use Rattle.records.specs.Front.{front}
 use Rattle.records.specs.Front.{told as toldOf}
 use Rattle.records.specs.Run.{run}
 use Rattle.records.specs.Run.{told as ranOf, written as ranWritten}
-use Rattle.records.specs.declared.Found.{Found}
-use Rattle.records.specs.declared.Ran.{Ran}
 
 -- the law
 one-reply : {A : Type 0} {promised r s : A} → r ≡ promised → s ≡ promised → r ≡ s

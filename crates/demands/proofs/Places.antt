@@ -1,6 +1,6 @@
 -- The ten states and the places that the onlooker tells apart: which turn, which is FAULT, and where a start leads on to.
 use mathlib.Core.Path.{_≡_, refl}
-use mathlib.Core.Bool.{Bool, true, false, not, _&&_}
+use mathlib.Core.Bool.{Bool, not, _&&_}
 use lib.Dec.{T}
 use Rattle.history.specs.Onlooker.{Place, atStop, atStart, atRun, atFault, elsewhere, isStartOrRun, isFault}
 use Rattle.drive.specs.State.{is, turning}

@@ -1,8 +1,8 @@
 -- Demand 1, and that no cycle and no tick changes a setting: "Bad input is refused with the number and place in document 01; the drive state .. then stand[s] as before."
-use mathlib.Core.Path.{_≡_, refl, sym, ap, _∙_}
-use mathlib.Core.Bool.{Bool, true, false, not}
+use mathlib.Core.Path.{_≡_, refl}
+use mathlib.Core.Bool.{Bool, true, false}
 use mathlib.Core.List.{List}
-use lib.Dec.{T, eqb}
+use lib.Dec.{eqb}
 use borrow.Author.Tests.{eqb-true}
 use Rattle.numbers.specs.Choose.{pick}
 use Rattle.drive.specs.Answer
@@ -20,7 +20,6 @@ use Rattle.drive.specs.declared.flags.Flags.{Flags}
 use Rattle.drive.specs.declared.run.Watched.{Watched}
 use Rattle.drive.specs.declared.moves.Move.{Move}
 use Rattle.drive.specs.declared.moves.Move.the-variants.{Stay, Enter, Measure, Clear, Retry}
-use Rattle.drive.specs.declared.answer.Reply.{Reply}
 use Rattle.verdicts.specs.declared.Verdict.{Verdict}
 
 -- the table of refusals of a call

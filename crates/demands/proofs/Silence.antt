@@ -1,18 +1,16 @@
 -- The three runs of the specs do what they say.
 use mathlib.Core.Path.{_≡_, refl, sym, ap, _∙_}
-use mathlib.Core.Bool.{Bool, true, false, _&&_}
-use mathlib.Core.List.{List, [], _∷_, _++_}
+use mathlib.Core.Bool.{true, false, _&&_}
 use Prim.Native.Nat.{ℕ, zero, suc, _+_, _≤_, min}
 use native.Mathlib.Omega.{arith}
 use native.Mathlib.Nat.{add-zero}
-use lib.Dec.{T, eqb, leb, lit≤}
+use lib.Dec.{T, leb, lit≤}
 use borrow.Author.Tests.{lt-leb}
 use Rattle.numbers.specs.Count.{up}
 use Rattle.drive.specs.State.{is}
 use Rattle.drive.specs.Flags.{none}
-use Rattle.drive.specs.Answer.{alive, gate}
 use Rattle.drive.specs.Calls.{powerUp}
-use Rattle.drive.specs.Sequence.{Call, reply}
+use Rattle.drive.specs.Sequence.{reply}
 use lib.IntN.{pos, negsuc}
 use Rattle.hall.specs.declared.fate.Kept.the-variants.{Pattern}
 use Rattle.drive.specs.declared.state.State.the-variants.{Stop, Fault}

@@ -1,21 +1,19 @@
 -- An accepted tick obeys the laws of demand 3.
-use mathlib.Core.Path.{_≡_, refl, sym, ap, subst}
+use mathlib.Core.Path.{_≡_, refl, subst}
 use mathlib.Core.Bool.{Bool, true, false, not, _&&_, _||_}
 use mathlib.Core.List.{List}
-use Prim.Native.Nat.{ℕ, suc, _+_, _<_, min}
-use native.Mathlib.Numerals.{add-one}
+use Prim.Native.Nat.{ℕ}
 use native.Mathlib.Omega.{arith}
-use lib.Dec.{T, eqb, ltb, leb, ltb→lt, leb→le}
-use Rattle.numbers.specs.Choose.{pick}
+use lib.Dec.{T, eqb}
 use Rattle.numbers.specs.Count.{up}
-use Rattle.history.specs.Onlooker.{Place, atStop, atStart, atRun, atFault, elsewhere, tick, noted, isStartOrRun, isFault}
+use Rattle.history.specs.Onlooker.{atStop, atRun, atFault, elsewhere, tick, noted}
 use Rattle.history.specs.Laws.{Inside, Step}
 use Rattle.hall.specs.declared.Hall.{Hall}
 use Rattle.drive.specs.State.{is, turning}
-use Rattle.settings.specs.Settings.{FaultEnable, RetryLimit, CmdStart, CmdStop}
-use Rattle.drive.specs.Flags.{any, live, none}
-use Rattle.drive.specs.Command.{low, high, mode1}
-use Rattle.drive.specs.Answer.{alive, gate}
+use Rattle.settings.specs.Settings.{FaultEnable, RetryLimit}
+use Rattle.drive.specs.Flags.{any}
+use Rattle.drive.specs.Command.{low, high}
+use Rattle.drive.specs.Answer.{alive}
 use Rattle.drive.specs.Causes.{watch}
 use Rattle.drive.specs.Moves.{moveOf}
 use Rattle.drive.specs.Calls.{standing, raised, alight, arms, moved, ticked}
@@ -25,12 +23,12 @@ use Rattle.drive.specs.declared.flags.Flags.{Flags}
 use Rattle.drive.specs.declared.offsets.Offsets.{Offsets}
 use Rattle.drive.specs.declared.run.Run.{Run}
 use Rattle.drive.specs.declared.state.State.{State}
-use Rattle.drive.specs.declared.state.State.the-variants.{Idle, Stop, OffsetCal, BtsCharge, MotorRun, Fault, CatchSpin, Parking, OpenLoop, AngleSensing}
+use Rattle.drive.specs.declared.state.State.the-variants.{Stop, OffsetCal, BtsCharge, Fault}
 use Rattle.drive.specs.declared.moves.Move.{Move}
 use Rattle.drive.specs.declared.moves.Move.the-variants.{Stay, Enter, Measure, Clear, Retry}
 use Rattle.demands.specs.Supervised.{placeOf, turns}
 use Rattle.demands.proofs.Gates.{gates-by, either-alive}
-use Rattle.demands.proofs.Allowed.{isRun, Allowed, stays, trips, stops, calibrates, starts, runs, measures, clears, retries, moveAt, allowed}
+use Rattle.demands.proofs.Allowed.{Allowed, stays, trips, stops, calibrates, starts, runs, measures, clears, retries, moveAt, allowed}
 use Rattle.demands.proofs.Places.{turning-place, fault-place, run-place, run-loaded, run-unarmed, no-fault}
 use Rattle.demands.proofs.Steps.{holds, Asks, Arms, stays-law, rests-law, starts-law, runs-law, clears-law, retries-law}
 

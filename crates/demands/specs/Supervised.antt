@@ -1,7 +1,5 @@
 -- This drive as the onlooker of demand 3 knows it: from its calls and their answers, and never from its arming flag or its count of retries.
-use Prim.Native.Nat.{ℕ}
-use mathlib.Core.Bool.{Bool, true, false, _||_}
-use mathlib.Core.List.{List}
+use mathlib.Core.Bool.{Bool, false, _||_}
 use lib.Dec.{eqb}
 use Rattle.numbers.specs.Choose.{pick}
 use Rattle.history.specs.Onlooker.{Place, atStop, atStart, atRun, atFault, elsewhere, Kind, load, tick, other}
@@ -13,7 +11,6 @@ use Rattle.drive.specs.Answer.{alive, gate}
 use Rattle.drive.specs.Calls.{powerUp, alight, standing}
 use Rattle.drive.specs.Sequence.{Call, loads, cycles, ticks, reply}
 use Rattle.drive.specs.declared.Drive.{Drive}
-use Rattle.drive.specs.declared.answer.Answer.{Answer}
 use Rattle.drive.specs.declared.state.State.{State}
 use Rattle.drive.specs.declared.state.State.the-variants.{Idle, Stop, OffsetCal, BtsCharge, MotorRun, Fault, CatchSpin, Parking, OpenLoop, AngleSensing}
 

@@ -1,6 +1,5 @@
 -- Document 01, "What the supervisor covers" and "Gates": what an answer shows of the state.
 use Prim.Native.Nat.{ℕ}
-use mathlib.Core.Bool.{Bool, _||_}
 use lib.IntN.{ℤ, pos}
 use lib.Signed.{quotZ}
 use Rattle.numbers.specs.Choose.{pick}

@@ -1,16 +1,14 @@
 -- Document 01: the three calls that change the state. "Each hands the next drive state back beside its answer".
-use Prim.Native.Nat.{ℕ, _+_}
+use Prim.Native.Nat.{ℕ}
 use mathlib.Core.Bool.{Bool, true, false, _&&_, _||_, not}
 use mathlib.Core.List.{List}
 use lib.Dec.{eqb, ltb}
-use lib.IntN.{ℤ}
 use lib.ListN.{replicate}
 use mir.Syntax.{w16}
 use mir.Val.{toZ}
 use Rattle.numbers.specs.Choose.{pick}
 use Rattle.numbers.specs.Count.{up}
 use Rattle.hall.specs.Sample.{sampled, poweredUp}
-use Rattle.hall.specs.declared.Hall.{Hall}
 use Rattle.hall.specs.declared.Sampled.{Sampled}
 use Rattle.drive.specs.State.{is}
 use Rattle.settings.specs.Settings.{FaultEnable, HallAngleOffset, OffsetPsc, RetryLimit}

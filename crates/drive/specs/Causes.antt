@@ -1,6 +1,5 @@
 -- Document 01, "Causes standing at a tick set these flags, which stay until cleared."
-use Prim.Native.Nat.{ℕ}
-use mathlib.Core.Bool.{Bool, _&&_}
+use mathlib.Core.Bool.{_&&_}
 use lib.Dec.{eqb, ltb}
 use Rattle.drive.specs.State.{is}
 use Rattle.settings.specs.Settings.{VdcOvLevel, VdcLvLevel, CriticalOvLevel, Tshutdown}

@@ -1,6 +1,6 @@
 -- Document 01, "Causes": "flags, which stay until cleared"; "A flag is live if its FaultEnable bit is 1; 0 and 1 are always live."
 use Prim.Native.Nat.{ℕ, _+_, _/_, _%_, _^_}
-use mathlib.Core.Bool.{Bool, true, false, _&&_, _||_}
+use mathlib.Core.Bool.{Bool, false, _&&_, _||_}
 use lib.Dec.{eqb}
 use Rattle.numbers.specs.Choose.{pick}
 use Rattle.drive.specs.declared.flags.Flags.{Flags}

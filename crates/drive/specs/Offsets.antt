@@ -1,9 +1,6 @@
 -- Document 01, "Cycle": "In OFFSETCAL the first N = 2^(13 - OffsetPsc) add their samples to two sums."; "each offset is its sum divided by N, rounded down".
 use Prim.Native.Nat.{ℕ, _+_, _-_, _/_, _%_, _^_}
-use mathlib.Core.Bool.{Bool, true, false}
-use mathlib.Core.List.{List}
-use Rattle.numbers.specs.Choose.{pick}
-use Rattle.settings.specs.Settings.{OffsetPsc}
+use mathlib.Core.Bool.{true, false}
 use Rattle.drive.specs.declared.offsets.Pair.{Pair}
 use Rattle.drive.specs.declared.offsets.Offsets.{Offsets}
 

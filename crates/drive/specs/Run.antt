@@ -1,9 +1,9 @@
 -- Document 01, "Causes": what bits 4, 7 and 14 count in MOTORRUN.
 use Prim.Native.Nat.{ℕ, _*_, _/_}
-use mathlib.Core.Bool.{Bool, true, false, _&&_, _||_, not}
+use mathlib.Core.Bool.{Bool, false, _&&_, _||_, not}
 use mathlib.Core.List.{List}
 use lib.Dec.{eqb, ltb, leb}
-use lib.IntN.{ℤ, pos, natAbs}
+use lib.IntN.{pos, natAbs}
 use Rattle.numbers.specs.Choose.{pick}
 use Rattle.numbers.specs.Count.{up}
 use Rattle.settings.specs.Settings.{FluxFaultTime, RotorLockTime, HallTimeoutPeriod, MinSpd, MotorLim}

@@ -1,7 +1,6 @@
 // Power-up, and the three calls that change the state.
 use crate::Cycle;
 use crate::Drive;
-use crate::Tick;
 use crate::answer::Reply;
 use crate::answer::replied;
 use crate::flags::Flags;

@@ -10,7 +10,6 @@ use lib.Signed.{mag, quotZ}
 use mir.Syntax.{Width}
 use mir.Val.{toZ, hbits}
 use mir.Facts.{toZ-ofZ}
-use borrow.Author.Tests.{ltb-true, ltb-false}
 
 difference : (a b : ℕ) (test : Bool) → ltb a (suc b) ≡ test → mag (subℕ a (suc b)) ≤ a + b + 1
 difference a b true e = rw e (omega arith)

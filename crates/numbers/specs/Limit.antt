@@ -1,5 +1,5 @@
 -- A number held to plus or minus 32767.
-use Prim.Native.Nat.{ℕ, _-_, min}
+use Prim.Native.Nat.{min}
 use lib.IntN.{ℤ, pos, negsuc}
 
 -- the nearest number from -32767 to 32767

@@ -3,7 +3,6 @@ use mathlib.Core.Path.{_≡_, refl, sym, ap, _∙_}
 use mathlib.Core.Bool.{Bool, true, false, not}
 use mathlib.Core.List.{List, [], _∷_}
 use mathlib.Core.Logic.{_↔_}
-use Prim.Native.Nat.{ℕ}
 use lib.Dec.{T}
 use Rattle.numbers.specs.Choose.{pick}
 use Rattle.verdicts.specs.Table.{Row, told, verdict, accepted, First, here, later}

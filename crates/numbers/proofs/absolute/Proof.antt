@@ -1,7 +1,6 @@
 -- `absolute` negates what is below zero at 32 bits, where the negative of every 16-bit number fits.
 use mathlib.Core.Path.{_≡_, subst}
 use mathlib.Core.Bool.{true, false}
-use Prim.Native.Nat.{ℕ}
 use native.Mathlib.Nat.{zero-add}
 use native.Mathlib.Omega.{arith}
 use lib.Dec.{T}

@@ -1,7 +1,7 @@
 -- `verdict` walks the rows from the first: what the rows from `i` on say is what all of them say.
 use mathlib.Core.Path.{_≡_, refl, sym, ap, _∙_}
-use mathlib.Core.Bool.{Bool, not}
-use mathlib.Core.List.{List, [], _∷_, map}
+use mathlib.Core.Bool.{not}
+use mathlib.Core.List.{List, _∷_, map}
 use Prim.Native.Nat.{ℕ, suc, _+_, _-_, _≤_, _<_}
 use native.Mathlib.Numerals.{add-one}
 use native.Mathlib.Omega.{arith}
@@ -9,7 +9,6 @@ use lib.Dec.{eqb, eqb→eq}
 use lib.ListN.{drop, getD}
 use lib.Seq.{drop-cons}
 use borrow.Author.Needs.{needs}
-use borrow.Author.Tests.{not-false}
 use Rattle.numbers.specs.Choose.{pick}
 use Rattle.numbers.proofs.Table.{at}
 use Rattle.verdicts.specs.Table.{verdict}

@@ -1,5 +1,4 @@
 -- `load` tests its rows in the table's order; accepted, the array that it made is the numbers lent.
-use mathlib.Core.Path.{_≡_, ap, _∙_}
 use borrow.Author.Needs.{needs}
 use borrow.Author.Tests.{eq-eqb, ne-eqb}
 use Rattle.drive.specs.Calls.{load}

@@ -1,6 +1,6 @@
 -- `copied` has copied every number below `i`; at 24 the two lists agree at every index.
 use mathlib.Core.Path.{_≡_, refl, _∙_, sym}
-use Prim.Native.Nat.{ℕ, _+_, _-_, _≤_, _<_}
+use Prim.Native.Nat.{ℕ, _-_, _≤_, _<_}
 use native.Mathlib.Omega.{arith}
 use lib.ListN.{length, getD, set, length-set}
 use lib.Seq.{getD-set-same, getD-set-other, ext-getD}

@@ -1,5 +1,5 @@
 -- `target_1` follows the definition test by test; a product of two 16-bit numbers fits 32 bits.
-use Prim.Native.Nat.{ℕ, _-_, _*_, _≤_}
+use Prim.Native.Nat.{_-_, _*_, _≤_}
 use native.Mathlib.Nat.{mul-le-mul}
 use native.Mathlib.Omega.{arith}
 use borrow.Author.Needs.{needs}

@@ -1,5 +1,4 @@
 -- `sector_of` is the paper's two rows, read at each pattern.
-use borrow.Author.Needs.{needs}
 use borrow.Author.Tests.{ne-eqb}
 use Rattle.hall.specs.Angle.{sectorOf}
 use Rattle.hall.proofs.angle.sector_of.Statement.{statement}

@@ -1,6 +1,6 @@
 -- `with_offset` adds at 32 bits, where no sum of two angles is lost, and reads the sum's lowest 16 bits.
 use mathlib.Core.Path.{_≡_}
-use Prim.Native.Nat.{ℕ, suc, _<_, _%_}
+use Prim.Native.Nat.{suc, _<_, _%_}
 use native.Mathlib.Omega.{arith}
 use lib.Dec.{T}
 use lib.IntN.{ℤ, pos, negsuc, natAbs, _+ℤ_}

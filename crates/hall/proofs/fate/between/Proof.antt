@@ -4,8 +4,6 @@ use borrow.Author.Tests.{eq-eqb, ne-eqb}
 use Rattle.hall.specs.Fate.{beside}
 use Rattle.hall.proofs.fate.between.Statement.{statement}
 use Rattle.hall.proofs.fate.between.Tie as tie
-use Rattle.hall.proofs.fate.between.Reads as reads
-use Rattle.hall.proofs.fate.between.Lts as lts
 
 enum-told : tie.Need-enum-told
 enum-told c = search needs

@@ -3,9 +3,6 @@ use borrow.Author.Tests.{ne-eqb}
 use Rattle.hall.specs.Fate.{fate}
 use Rattle.hall.proofs.fate.judged.Statement.{statement}
 use Rattle.hall.proofs.fate.judged.Tie as tie
-use Rattle.hall.proofs.fate.judged.Reads as reads
-use Rattle.hall.proofs.fate.judged.Lts as lts
-use Rattle.hall.proofs.fate.between.Reads as between-reads
 
 between-requires : tie.Need-between-requires
 between-requires c κs = search needs
