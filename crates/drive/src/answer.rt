@@ -6,6 +6,7 @@ use crate::offsets::Pair;
 use crate::state::State;
 use crate::state::is_turning;
 use crate::state::number as number_of;
+use settings::FAULT_ENABLE;
 ghost use mathlib.Core.Path.{_≡_};
 ghost use Rattle.drive.specs.Answer.{gateOf, gate, reported, answer, reply};
 
@@ -52,7 +53,7 @@ pub fn answered(drive: Drive, number: u8, place: u8) -> Answer
 {
     let settings = drive.settings;
     let flags = drive.flags;
-    let alive = flags.live(settings[1]);
+    let alive = flags.live(settings[FAULT_ENABLE]);
     let state = drive.state;
     let run = drive.run;
     let hall = drive.hall;

@@ -13,6 +13,8 @@ use hall::Hall;
 use hall::Sampled;
 use numbers::count_up;
 use numbers::signed;
+use settings::HALL_ANGLE_OFFSET;
+use settings::OFFSET_PSC;
 ghost use mathlib.Core.Path.{_≡_};
 ghost use lib.ListN.{length};
 ghost use Rattle.numbers.specs.Choose.{pick};
@@ -90,7 +92,7 @@ impl Drive {
     {
         let settings = self.settings;
         let hall = self.hall;
-        hall.sampled(cycle.pattern, signed(settings[9]))
+        hall.sampled(cycle.pattern, signed(settings[HALL_ANGLE_OFFSET]))
     }
 
     fn summed(self, cycle: Cycle) -> Offsets
@@ -99,7 +101,7 @@ impl Drive {
         let settings = self.settings;
         let state = self.state;
         let offsets = self.offsets;
-        let counts = (number(state) == 2) & (self.cycles < samples(settings[13]));
+        let counts = (number(state) == 2) & (self.cycles < samples(settings[OFFSET_PSC]));
         pick_offsets(counts, offsets.added(cycle.first, cycle.second), offsets)
     }
 

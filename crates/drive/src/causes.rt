@@ -4,6 +4,10 @@ use crate::Tick;
 use crate::flags::Flags;
 use crate::run::Watched;
 use crate::state::number;
+use settings::CRITICAL_OV_LEVEL;
+use settings::T_SHUTDOWN;
+use settings::VDC_LV_LEVEL;
+use settings::VDC_OV_LEVEL;
 ghost use mathlib.Core.Path.{_≡_};
 ghost use Rattle.drive.specs.Causes.{causes};
 
@@ -17,11 +21,11 @@ impl Drive {
         let running = number(state) == 4;
         Flags {
             kill: tick.kill == 1,
-            critical: settings[4] < tick.raw,
-            over: settings[2] < tick.filtered,
-            under: tick.filtered < settings[3],
+            critical: settings[CRITICAL_OV_LEVEL] < tick.raw,
+            over: settings[VDC_OV_LEVEL] < tick.filtered,
+            under: tick.filtered < settings[VDC_LV_LEVEL],
             flux: running & watched.flux,
-            heat: settings[5] < tick.temperature,
+            heat: settings[T_SHUTDOWN] < tick.temperature,
             lock: running & watched.locked,
             timeout: running & watched.timeout,
             hall: hall.dead == 2,

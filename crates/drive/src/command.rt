@@ -3,13 +3,16 @@ use crate::Tick;
 ghost use mathlib.Core.Path.{_≡_};
 ghost use Rattle.drive.specs.Command.{low, high};
 use crate::choose::pick_bool;
+use settings::CMD_START;
+use settings::CMD_STOP;
+use settings::CONTROL_MODE;
 
 pub(crate) fn low(settings: [u16; 24], tick: Tick) -> bool
     ensures { λ r. ⌜ r ≡ low settings tick ⌝ }
 {
     pick_bool(
-        settings[0] == 1,
-        tick.control <= settings[21],
+        settings[CONTROL_MODE] == 1,
+        tick.control <= settings[CMD_STOP],
         tick.command == 0,
     )
 }
@@ -18,8 +21,8 @@ pub(crate) fn high(settings: [u16; 24], tick: Tick) -> bool
     ensures { λ r. ⌜ r ≡ high settings tick ⌝ }
 {
     pick_bool(
-        settings[0] == 1,
-        settings[20] <= tick.control,
+        settings[CONTROL_MODE] == 1,
+        settings[CMD_START] <= tick.control,
         tick.command == 1,
     )
 }

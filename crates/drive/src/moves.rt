@@ -6,6 +6,16 @@ use crate::state::State;
 use crate::state::is_turning;
 use crate::state::number;
 use numbers::count_up;
+use settings::BTS_CHARGE_TIME;
+use settings::CONTROL_MODE;
+use settings::DIRECT_START_THR;
+use settings::IS_PULSES;
+use settings::MIN_SPD;
+use settings::OFFSET_PSC;
+use settings::OPEN_LOOP_RAMP;
+use settings::PARK_TIME;
+use settings::RETRY_LIMIT;
+use settings::T_CATCH_SPIN;
 ghost use mathlib.Core.Path.{_≡_};
 ghost use Prim.Native.Nat.{_*_};
 ghost use Rattle.numbers.specs.Choose.{pick};
@@ -42,21 +52,25 @@ fn from_stop(measured: bool, armed: bool, high: bool) -> Move
 fn from_offset_cal(settings: [u16; 24], cycles: u32) -> Move
     ensures { λ r. ⌜ r ≡ fromOffsetCal settings cycles ⌝ }
 {
-    pick_move(samples(settings[13]) <= cycles, Move::Measure, Move::Stay)
+    pick_move(
+        samples(settings[OFFSET_PSC]) <= cycles,
+        Move::Measure,
+        Move::Stay,
+    )
 }
 
 fn from_bts_charge(settings: [u16; 24], cycles: u32) -> Move
     ensures { λ r. ⌜ r ≡ fromBtsCharge settings cycles ⌝ }
 {
-    let charged = (settings[14] as u32) <= cycles;
+    let charged = (settings[BTS_CHARGE_TIME] as u32) <= cycles;
     pick_move(charged, Move::Enter(State::CatchSpin), Move::Stay)
 }
 
 fn from_catch_spin(settings: [u16; 24], n: u32, speed: u16) -> Move
     ensures { λ r. ⌜ r ≡ fromCatchSpin settings n speed ⌝ }
 {
-    let time = settings[15] as u32;
-    let fast = settings[16] < speed;
+    let time = settings[T_CATCH_SPIN] as u32;
+    let fast = settings[DIRECT_START_THR] < speed;
     let caught = pick_move(
         fast,
         Move::Enter(State::MotorRun),
@@ -69,7 +83,7 @@ fn from_catch_spin(settings: [u16; 24], n: u32, speed: u16) -> Move
 fn from_angle_sensing(settings: [u16; 24], cycles: u32) -> Move
     ensures { λ r. ⌜ r ≡ fromAngleSensing settings cycles ⌝ }
 {
-    let pulses = settings[17];
+    let pulses = settings[IS_PULSES];
     let sensed = six_times(pulses) <= cycles;
     let ends = pick_move(sensed, Move::Enter(State::MotorRun), Move::Stay);
     pick_move(pulses == 0, Move::Enter(State::Parking), ends)
@@ -78,22 +92,22 @@ fn from_angle_sensing(settings: [u16; 24], cycles: u32) -> Move
 fn from_parking(settings: [u16; 24], n: u32) -> Move
     ensures { λ r. ⌜ r ≡ fromParking settings n ⌝ }
 {
-    let parked = (settings[18] as u32) <= n;
+    let parked = (settings[PARK_TIME] as u32) <= n;
     pick_move(parked, Move::Enter(State::OpenLoop), Move::Stay)
 }
 
 fn from_open_loop(settings: [u16; 24], speed: u16) -> Move
     ensures { λ r. ⌜ r ≡ fromOpenLoop settings speed ⌝ }
 {
-    let fast = (settings[19] == 0) | (settings[10] <= speed);
+    let fast = (settings[OPEN_LOOP_RAMP] == 0) | (settings[MIN_SPD] <= speed);
     pick_move(fast, Move::Enter(State::MotorRun), Move::Stay)
 }
 
 fn from_fault(settings: [u16; 24], n: u32, retries: u32, clear: u8, blocked: bool) -> Move
     ensures { λ r. ⌜ r ≡ fromFault settings n retries clear blocked ⌝ }
 {
-    let waited = (settings[0] == 1) & (10000 <= n);
-    let again = waited & (retries < (settings[23] as u32));
+    let waited = (settings[CONTROL_MODE] == 1) & (10000 <= n);
+    let again = waited & (retries < (settings[RETRY_LIMIT] as u32));
     let timed = pick_move(again, Move::Retry, Move::Stay);
     let ends = pick_move(clear == 1, Move::Clear, timed);
     pick_move(blocked, Move::Stay, ends)

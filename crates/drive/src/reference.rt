@@ -1,6 +1,11 @@
 // The speed reference, kept times 2048.
 use crate::Tick;
 use numbers::absolute;
+use settings::CMD_GAIN;
+use settings::CMD_START;
+use settings::CONTROL_MODE;
+use settings::MIN_SPD;
+use settings::SPD_RAMP_RATE;
 ghost use mathlib.Core.Path.{_≡_};
 ghost use Prim.Native.Nat.{_<_};
 ghost use lib.Signed.{mag};
@@ -52,10 +57,15 @@ fn target(settings: [u16; 24], tick: Tick) -> i32
     ensures value { λ r. ⌜ r ≡ targetOf settings tick ⌝ }
     ensures small { λ r. ⌜ mag r < 65536 ⌝ }
 {
-    if settings[0] == 1 {
-        return target_1(settings[10], settings[20], settings[22], tick.control) as i32;
+    if settings[CONTROL_MODE] == 1 {
+        return target_1(
+            settings[MIN_SPD],
+            settings[CMD_START],
+            settings[CMD_GAIN],
+            tick.control,
+        ) as i32;
     }
-    target_0(settings[10], tick.target)
+    target_0(settings[MIN_SPD], tick.target)
 }
 
 // The reference moved toward the target by at most the rate, without passing it.
@@ -78,5 +88,9 @@ fn toward(rate: u16, target: i32, reference: i32) -> i32
 pub(crate) fn ramped(settings: [u16; 24], tick: Tick, reference: i32) -> i32
     ensures { λ r. ⌜ r ≡ ramped settings tick reference ⌝ }
 {
-    toward(settings[11], times_2048(target(settings, tick)), reference)
+    toward(
+        settings[SPD_RAMP_RATE],
+        times_2048(target(settings, tick)),
+        reference,
+    )
 }

@@ -2,6 +2,11 @@
 use crate::Tick;
 use crate::choose::pick_u32;
 use numbers::count_up;
+use settings::FLUX_FAULT_TIME;
+use settings::HALL_TIMEOUT_PERIOD;
+use settings::MIN_SPD;
+use settings::MOTOR_LIM;
+use settings::ROTOR_LOCK_TIME;
 ghost use mathlib.Core.Path.{_≡_};
 ghost use Prim.Native.Nat.{_*_};
 ghost use Rattle.drive.specs.Run.{still, slotLength, badFlux, nextSlots, fluxStands, lasting, lasts, locked, watched};
@@ -106,7 +111,7 @@ fn locked(settings: [u16; 24], tick: Tick) -> bool
 {
     let torque = tick.absolute_torque();
     let speed = tick.absolute_speed();
-    (settings[12] <= torque) & (settings[10] <= speed) & (speed <= 4095)
+    (settings[MOTOR_LIM] <= torque) & (settings[MIN_SPD] <= speed) & (speed <= 4095)
 }
 
 impl Run {
@@ -114,11 +119,11 @@ impl Run {
     pub(crate) fn watched(self, settings: [u16; 24], tick: Tick, still_count: u32) -> Watched
         ensures { λ r. ⌜ r ≡ watched settings tick «still_count» self ⌝ }
     {
-        let length = slot_length(settings[7]);
+        let length = slot_length(settings[FLUX_FAULT_TIME]);
         let bad_tick = bad_flux(tick.flux);
-        let lock_limit = ten_times(settings[6]);
+        let lock_limit = ten_times(settings[ROTOR_LOCK_TIME]);
         let is_locked = locked(settings, tick);
-        let still_limit = ten_times(settings[8]);
+        let still_limit = ten_times(settings[HALL_TIMEOUT_PERIOD]);
         let is_still = still_count == 4096;
         let old = self.slots;
         let slots = old.next(length, bad_tick);

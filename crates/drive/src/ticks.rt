@@ -18,6 +18,9 @@ use crate::run::Watched;
 use crate::state::State;
 use crate::state::number;
 use numbers::count_up;
+use settings::FAULT_ENABLE;
+use settings::OFFSET_PSC;
+use settings::RETRY_LIMIT;
 ghost use mathlib.Core.Path.{_≡_};
 ghost use mathlib.Core.Bool.{_&&_, _||_, not};
 ghost use Rattle.numbers.specs.Choose.{pick};
@@ -149,7 +152,7 @@ impl Drive {
     {
         let settings = self.settings;
         let offsets = self.offsets;
-        let n = samples(settings[13]);
+        let n = samples(settings[OFFSET_PSC]);
         self.arrive(
             State::Stop,
             flags,
@@ -165,7 +168,7 @@ impl Drive {
     {
         let settings = self.settings;
         let offsets = self.offsets;
-        let retries = count_up(self.retries, settings[23] as u32);
+        let retries = count_up(self.retries, settings[RETRY_LIMIT] as u32);
         self.arrive(
             State::Stop,
             Flags::none(),
@@ -204,7 +207,7 @@ impl Drive {
         let raised = old.either(standing);
         let is_low = low(settings, tick);
         let is_high = high(settings, tick);
-        let mask = settings[1];
+        let mask = settings[FAULT_ENABLE];
         let tripped = raised.alight(mask);
         let blocked = standing.alight(mask);
         let step = self.move_of(tick, is_low, is_high, tripped, blocked);
