@@ -1,36 +1,28 @@
 // The parts of a line.
-use drive::answer::Reply;
 use libc::STDOUT_FILENO;
-use numbers::absolute;
-ghost use Prim.Native.Nat.{_<_};
+use std::num::wrapping_sub_u16;
 
 pub(crate) fn say(text: &[u8]) {
     io::write_all(STDOUT_FILENO, text);
 }
 
-pub(crate) fn say_number(number: u16) {
+// A text, and a number after it.
+pub(crate) fn say_number(text: &[u8], number: u16) {
+    io::write_all(STDOUT_FILENO, text);
     io::print_decimal(STDOUT_FILENO, number as u64);
 }
 
-// Places count from 1.
-pub(crate) fn say_place(index: usize)
-    requires { ⌜ index < 24 ⌝ }
-{
-    io::print_decimal(STDOUT_FILENO, index as u64 + 1);
-}
-
-pub(crate) fn say_signed(number: i16) {
-    if number < 0 {
-        say(b"-");
+// A field's value. A signed field stands in two's complement.
+pub(crate) fn say_value(signed: bool, value: u16) {
+    if signed & (32767 < value) {
+        say_number(b" at -", wrapping_sub_u16(0, value));
+    } else {
+        say_number(b" at ", value);
     }
-    say_number(absolute(number));
 }
 
-pub(crate) fn end(reply: Reply) {
-    let answer = reply.answer;
-    say(b" ");
-    say_number(answer.number as u16);
-    say(b" ");
-    say_number(answer.place as u16);
+pub(crate) fn end(number: u8, place: u8) {
+    say_number(b" ", number as u16);
+    say_number(b" ", place as u16);
     say(b"\n");
 }

@@ -1,18 +1,19 @@
 // Gives each refusal of load, cycle and tick once and more, and prints a line for each call: what was called, number and place.
-mod cycles;
+mod calls;
 mod lines;
-mod settings;
+mod parts;
 mod sizes;
 mod states;
-mod ticks;
+mod tables;
+
+use calls::CYCLE;
+use calls::LOAD;
+use calls::TICK;
 
 fn main() {
-    settings::each();
-    settings::several();
+    parts::part(b"setting", LOAD, 0, 24);
     sizes::each();
     states::walk();
-    cycles::each();
-    cycles::several();
-    ticks::each();
-    ticks::several();
+    parts::part(b"cycle field", CYCLE, 30, 33);
+    parts::part(b"tick field", TICK, 33, 44);
 }

@@ -1,75 +1,48 @@
 // The calls in each of the ten states, which a run of nine ticks reaches one after the other.
-use crate::cycles::GOOD as CYCLE;
-use crate::cycles::cycle_of;
-use crate::lines::end;
+use crate::calls::CYCLE;
+use crate::calls::LOAD;
+use crate::calls::TICK;
+use crate::calls::ready;
+use crate::calls::replied;
+use crate::calls::run;
+use crate::calls::with;
 use crate::lines::say;
-use crate::settings::GOOD as SETTINGS;
-use crate::ticks::GOOD as TICK;
-use crate::ticks::tick_of;
+use crate::tables::GOOD;
 use drive::Drive;
-use drive::Tick;
-use drive::state::State;
+use drive::answer::answered;
+ghost use Prim.Native.Nat.{_<_};
 
-pub(crate) fn stopped() -> Drive {
-    Drive::power_up().load(&SETTINGS).drive
+// The names of the states by their numbers, 12 bytes to each, and how many bytes of them each name is.
+const NAMES: [u8; 120] =
+    *b"IDLE        STOP        OFFSETCAL   BTSCHARGE   MOTORRUN    FAULT       CATCHSPIN   PARKING     OPENLOOP    ANGLESENSING";
+
+const SIZES: [usize; 10] = [4, 4, 9, 9, 8, 5, 9, 7, 8, 12];
+
+fn say_state(state: u8) {
+    let n = (state % 10) as usize;
+    let from = 12 * n;
+    let to = from + SIZES[n] % 13;
+    say(b" in ");
+    say(&NAMES[from..to]);
 }
 
-fn say_state(state: State) {
-    match state {
-        State::Idle => say(b" in IDLE"),
-        State::Stop => say(b" in STOP"),
-        State::OffsetCal => say(b" in OFFSETCAL"),
-        State::BtsCharge => say(b" in BTSCHARGE"),
-        State::MotorRun => say(b" in MOTORRUN"),
-        State::Fault => say(b" in FAULT"),
-        State::CatchSpin => say(b" in CATCHSPIN"),
-        State::Parking => say(b" in PARKING"),
-        State::OpenLoop => say(b" in OPENLOOP"),
-        State::AngleSensing => say(b" in ANGLESENSING"),
-    }
+fn asked(text: &[u8], call: usize, drive: Drive, i: usize, value: u16)
+    requires { ⌜ i < 44 ⌝ }
+{
+    say(text);
+    say_state(answered(drive, 0, 0).state);
+    run(drive, call, with(i, value));
 }
 
-fn loads(drive: Drive) {
-    let state = drive.state;
-    say(b"load");
-    say_state(state);
-    end(drive.load(&SETTINGS));
-    let mut bad = SETTINGS;
-    bad[0] = 2;
-    say(b"bad load");
-    say_state(state);
-    end(drive.load(&bad));
-    say(b"load of 23 numbers");
-    say_state(state);
-    end(drive.load(&bad[..23]));
-}
-
-fn cycles(drive: Drive) {
-    let state = drive.state;
-    say(b"cycle");
-    say_state(state);
-    end(drive.cycle(cycle_of(CYCLE)));
-    say(b"bad cycle");
-    say_state(state);
-    end(drive.cycle(cycle_of([8, 0, 0])));
-}
-
-fn ticks(drive: Drive) {
-    let state = drive.state;
-    say(b"tick");
-    say_state(state);
-    end(drive.tick(tick_of(TICK)));
-    let mut bad = TICK;
-    bad[0] = 2;
-    say(b"bad tick");
-    say_state(state);
-    end(drive.tick(tick_of(bad)));
-}
-
+// Each call with its first number good, and bad.
 fn calls(drive: Drive) {
-    loads(drive);
-    cycles(drive);
-    ticks(drive);
+    asked(b"load", LOAD, drive, 0, 0);
+    asked(b"bad load", LOAD, drive, 0, 2);
+    asked(b"load of 23 numbers", 23, drive, 0, 2);
+    asked(b"cycle", CYCLE, drive, 30, 1);
+    asked(b"bad cycle", CYCLE, drive, 30, 8);
+    asked(b"tick", TICK, drive, 33, 0);
+    asked(b"bad tick", TICK, drive, 33, 2);
 }
 
 // OffsetPsc 7 asks for 64 cycles, more than any other state of the walk does.
@@ -77,31 +50,26 @@ fn cycled(drive: Drive) -> Drive {
     let mut drive = drive;
     let mut i: u8 = 0;
     while i < 64 {
-        drive = drive.cycle(cycle_of(CYCLE)).drive;
+        drive = replied(drive, CYCLE, GOOD).drive;
         i += 1;
     }
     drive
 }
 
 // The tick out of the nth state: command 0 arms and measures the offsets, command 1 starts and runs, and gate kill ends it.
-fn tick_out(n: u8) -> Tick {
-    let mut fields = TICK;
-    if 1 < n {
-        fields[2] = 1;
-    }
-    if n == 8 {
-        fields[0] = 1;
-    }
-    tick_of(fields)
+fn row_out(n: u8) -> [u16; 44] {
+    let mut row = with(35, (1 < n) as u16);
+    row[33] = (n == 8) as u16;
+    row
 }
 
 pub(crate) fn walk() {
     calls(Drive::power_up());
-    let mut drive = stopped();
+    let mut drive = ready(CYCLE);
     let mut n: u8 = 0;
     while n < 10 {
         calls(drive);
-        drive = cycled(drive).tick(tick_out(n)).drive;
+        drive = replied(cycled(drive), TICK, row_out(n)).drive;
         n += 1;
     }
 }

@@ -5,10 +5,10 @@ use Rattle.refusals.proofs.sizes.each.Statement.{statement}
 use Rattle.refusals.proofs.sizes.each.Tie as tie
 
 abbrev Inv-loop : tie.InvT-loop
-Inv-loop good bad size₀ t4 t5 size = size ≤ 31
+Inv-loop size₀ t2 t3 size = size ≤ 31
 
 abbrev μ-loop : tie.MeasureT-loop
-μ-loop good bad size₀ t4 t5 size = 31 - size
+μ-loop size₀ t2 t3 size = 31 - size
 
 pub each-spec : {M : Type 1} → statement M
 each-spec =
@@ -16,14 +16,10 @@ each-spec =
     (tie.spec
     Inv-loop
     μ-loop
-    (λ c κs. search needs)
     (λ c. search needs)
     (λ c. search needs)
-    (λ c. search needs)
-    (λ c κs. search needs)
     (λ c κs. search needs)
     (λ c. search needs)
-    (λ c κs. search needs)
     (λ c κs. search needs)
     (λ c. search needs)
     (λ c. search needs)

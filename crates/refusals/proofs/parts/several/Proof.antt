@@ -1,16 +1,16 @@
--- `several` counts down from 11, and its array keeps its 11 fields.
+-- `several` counts the numbers of its part down, and its row keeps its 44 numbers.
 use mathlib.Core.Path.{_≡_}
 use Prim.Native.Nat.{_≤_}
 use lib.ListN.{length}
 use borrow.Author.Needs.{needs}
-use Rattle.refusals.proofs.ticks.several.Statement.{statement}
-use Rattle.refusals.proofs.ticks.several.Tie as tie
+use Rattle.refusals.proofs.parts.several.Statement.{statement}
+use Rattle.refusals.proofs.parts.several.Tie as tie
 
 abbrev Inv-loop : tie.InvT-loop
-Inv-loop fields₀ i₀ t3 fields i = (i ≤ 11) × (length fields ≡ 11)
+Inv-loop text call first past row₀ i₀ t7 row i = (i ≤ past) × (length row ≡ 44)
 
 abbrev μ-loop : tie.MeasureT-loop
-μ-loop fields₀ i₀ t3 fields i = i
+μ-loop text call first past row₀ i₀ t7 row i = i
 
 pub several-spec : {M : Type 1} → statement M
 several-spec =
@@ -22,13 +22,13 @@ several-spec =
     (λ c. search needs)
     (λ c. search needs)
     (λ c. search needs)
+    (λ c. search needs)
+    (λ c. search needs)
     (λ c κs. search needs)
     (λ c. search needs)
     (λ c. search needs)
     (λ c. search needs)
-    (λ c κs. search needs)
-    (λ c κs. search needs)
-    (λ c κs. search needs)
+    (λ c. search needs)
     (λ c κs. search needs)
     (λ c κs. search needs)
     (λ c κs. search needs)

@@ -1,14 +1,14 @@
--- `each` counts the 11 fields.
+-- `each` counts the numbers of its part.
 use Prim.Native.Nat.{_≤_, _-_}
 use borrow.Author.Needs.{needs}
-use Rattle.refusals.proofs.ticks.each.Statement.{statement}
-use Rattle.refusals.proofs.ticks.each.Tie as tie
+use Rattle.refusals.proofs.parts.each.Statement.{statement}
+use Rattle.refusals.proofs.parts.each.Tie as tie
 
 abbrev Inv-loop : tie.InvT-loop
-Inv-loop i₀ i = i ≤ 11
+Inv-loop text call first past i₀ i = first ≤ i
 
 abbrev μ-loop : tie.MeasureT-loop
-μ-loop i₀ i = 11 - i
+μ-loop text call first past i₀ i = past - i
 
 pub each-spec : {M : Type 1} → statement M
 each-spec =
