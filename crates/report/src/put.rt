@@ -58,22 +58,33 @@ pub(crate) fn put_signed(lent: &mut [u8], at: usize, number: i16)
     put_digits(lent, at + 1, numbers::absolute(number) as u32, 10, 5);
 }
 
-// The name of a state, padded with full stops to twelve.
+// The states' names by their numbers, padded with full stops to twelve.
+const NAMES: [[u8; 12]; 10] = [
+    *b"IDLE........",
+    *b"STOP........",
+    *b"OFFSETCAL...",
+    *b"BTSCHARGE...",
+    *b"MOTORRUN....",
+    *b"FAULT.......",
+    *b"CATCHSPIN...",
+    *b"PARKING.....",
+    *b"OPENLOOP....",
+    *b"ANGLESENSING",
+];
+
+fn name(state: u8) -> [u8; 12]
+    requires { ⌜ state ≤ 9 ⌝ }
+    ensures { λ r. ⌜ r ≡ name state ⌝ }
+{
+    NAMES[state as usize]
+}
+
+// The name of a state.
 pub(crate) fn put_name(lent: &mut [u8], at: usize, state: u8)
     requires { ⌜ state ≤ 9 ⌝ }
     requires { ⌜ at + 12 ≤ length (now lent) ⌝ }
     ensures { λ _. ⌜ now (lent .exit) ≡ sets (now (lent .entry)) at (name state) ⌝ }
 {
-    match state {
-        0 => put(lent, at, b"IDLE........"),
-        1 => put(lent, at, b"STOP........"),
-        2 => put(lent, at, b"OFFSETCAL..."),
-        3 => put(lent, at, b"BTSCHARGE..."),
-        4 => put(lent, at, b"MOTORRUN...."),
-        5 => put(lent, at, b"FAULT......."),
-        6 => put(lent, at, b"CATCHSPIN..."),
-        7 => put(lent, at, b"PARKING....."),
-        8 => put(lent, at, b"OPENLOOP...."),
-        _ => put(lent, at, b"ANGLESENSING"),
-    }
+    let name = name(state);
+    put(lent, at, &name);
 }
