@@ -5,7 +5,7 @@ use mathlib.Core.List.{List, [], _∷_}
 use lib.Dec.{eqb, ltb}
 use Rattle.verdicts.specs.Table.{Row, row, verdict}
 use Rattle.drive.specs.declared.answer.Answer.{Answer}
-use Rattle.report.specs.declared.Told.{Told}
+use Rattle.verdicts.specs.declared.Verdict.{Verdict}
 
 -- "45 bytes"
 abbrev pub lineLength : ℕ
@@ -21,10 +21,9 @@ lineRows answer lent =
     ∷ []
 
 -- "The line call answers number and place only."
-abbrev pub told : Answer → ℕ → Told
-told answer lent =
-    record { number = verdict (lineRows answer lent) .number; place = verdict (lineRows answer lent) .place }
+abbrev pub told : Answer → ℕ → Verdict
+told answer lent = verdict (lineRows answer lent)
 
 -- "0 | accepted"
 abbrev pub accepts : Answer → ℕ → Bool
-accepts answer lent = eqb (verdict (lineRows answer lent) .number) 0
+accepts answer lent = eqb (told answer lent .number) 0

@@ -3,6 +3,8 @@ mod put;
 mod write;
 
 use drive::answer::Answer;
+use verdicts::Verdict;
+use verdicts::accepted;
 ghost use mathlib.Core.Path.{_≡_};
 ghost use lib.ListN.{length};
 ghost use Rattle.report.specs.Refusals.{told};
@@ -11,44 +13,35 @@ ghost use Rattle.report.specs.Line.{written};
 // How many bytes a line has.
 const LINE_LENGTH: usize = 45;
 
-// What became of the call.
-pub struct Told {
-    pub number: u8,
-    pub place: u8,
-}
-
 // Writes the line of an answer to the front of the lent bytes; refused, it writes nothing.
-pub fn line(answer: Answer, lent: &mut [u8]) -> Told
+pub fn line(answer: Answer, lent: &mut [u8]) -> Verdict
     ensures { λ r. ⌜ r ≡ told answer (length (now (lent .entry))) ⌝ }
     ensures { λ _. ⌜ now (lent .exit) ≡ written answer (now (lent .entry)) ⌝ }
 {
     if lent.len() < LINE_LENGTH {
-        return Told {
+        return Verdict {
             number: 5,
             place: 0,
         };
     }
     if 15 < answer.number {
-        return Told {
+        return Verdict {
             number: 5,
             place: 1,
         };
     }
     if 9 < answer.state {
-        return Told {
+        return Verdict {
             number: 5,
             place: 2,
         };
     }
     if 3 < answer.gate {
-        return Told {
+        return Verdict {
             number: 5,
             place: 3,
         };
     }
     write::fields(answer, lent);
-    Told {
-        number: 0,
-        place: 0,
-    }
+    accepted()
 }
