@@ -1,6 +1,4 @@
 -- `put_name` copies what `name` gives.
-use mathlib.Core.Path.{ap, _∙_}
-use lib.Seq.{sets}
 use borrow.Author.Needs.{needs}
 use Rattle.report.proofs.put.put_name.Statement.{statement}
 use Rattle.report.proofs.put.put_name.Tie as tie
