@@ -1,0 +1,52 @@
+"""Tests of `measure`: python3 -m unittest discover tools/tests"""
+
+import importlib.machinery
+import importlib.util
+import tempfile
+import unittest
+from pathlib import Path
+
+PROGRAM = Path(__file__).resolve().parent.parent / "measure"
+LOADER = importlib.machinery.SourceFileLoader("measure", str(PROGRAM))
+SPEC = importlib.util.spec_from_loader("measure", LOADER)
+measure = importlib.util.module_from_spec(SPEC)
+LOADER.exec_module(measure)
+
+LOG = "fn pump::turn: proved\nlogic=proved functions=7 axioms=2 target=x\nrt: pump proved (12 s)\n"
+
+
+class Measure(unittest.TestCase):
+    """A crate of three lines with two edits, and what a check of it left."""
+
+    def setUp(self) -> None:
+        folder = tempfile.TemporaryDirectory()
+        self.addCleanup(folder.cleanup)
+        self.root = Path(folder.name)
+        for path, text in {
+            "crates/pump/src/lib.rt": "// why\n\nfn turn() {\n    ()\n}\n",
+            "crates/pump/specs/Turn.antt": "-- the paper\nabbrev turn : N\nturn = 0\n",
+            "crates/pump/must-fail/a.edit": "",
+            "crates/pump/must-fail/b.edit": "",
+            "target/log/pump.out": LOG,
+            "target/must-fail/pump/a.out": "rt: must-fail pump/a: refused, as it must be (first at src/lib.rt:3:1; 10 s)\n",
+            "target/must-fail/pump/b.out": "rt: must-fail pump/b: refused, as it must be (5 s)\n",
+        }.items():
+            file = self.root / path
+            file.parent.mkdir(parents=True, exist_ok=True)
+            file.write_text(text)
+
+    def test_crates_in_their_order(self) -> None:
+        self.assertEqual(measure.crate_names("# NAME: what\npump:\nhall: pump\n\n# more\nrun: hall io\n"), ["pump", "hall", "run"])
+
+    def test_row(self) -> None:
+        self.assertEqual(measure.row(self.root, "pump"), "| pump | 12 s | 8 s | 3 | 2 | - | 7 | 2 | 2 |")
+
+    def test_a_crate_that_was_not_checked(self) -> None:
+        (self.root / "target/log/pump.out").write_text("rt: pump proved (unchanged since it was last proved)\n")
+        (self.root / "target/must-fail/pump/a.out").unlink()
+        (self.root / "target/must-fail/pump/b.out").unlink()
+        self.assertEqual(measure.row(self.root, "pump"), "| pump | - | - | 3 | 2 | - | - | - | 2 |")
+
+
+if __name__ == "__main__":
+    unittest.main()
