@@ -16,8 +16,8 @@ pub struct Offsets {
     pub sum: Pair,
 }
 
-// The powers of two from 2^13 down to 2^0.
-const SAMPLES: [u32; 14] = [
+// The powers of two from 2^13 down to 2^1.
+const SAMPLES: [u32; 13] = [
     8192,
     4096,
     2048,
@@ -31,7 +31,6 @@ const SAMPLES: [u32; 14] = [
     8,
     4,
     2,
-    1,
 ];
 
 // How many samples the offsets are measured over: N.

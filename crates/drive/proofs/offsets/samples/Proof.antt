@@ -13,7 +13,7 @@ use Rattle.drive.proofs.offsets.samples.Statement.{statement}
 use Rattle.drive.proofs.offsets.samples.Tie as tie
 
 abbrev powers : List ℕ
-powers = 8192 ∷ 4096 ∷ 2048 ∷ 1024 ∷ 512 ∷ 256 ∷ 128 ∷ 64 ∷ 32 ∷ 16 ∷ 8 ∷ 4 ∷ 2 ∷ 1 ∷ []
+powers = 8192 ∷ 4096 ∷ 2048 ∷ 1024 ∷ 512 ∷ 256 ∷ 128 ∷ 64 ∷ 32 ∷ 16 ∷ 8 ∷ 4 ∷ 2 ∷ []
 
 abbrev right : ℕ → ℕ → Bool
 right psc power = eqb power (samples psc)
