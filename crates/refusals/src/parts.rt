@@ -36,16 +36,6 @@ fn ends(text: &[u8], call: usize, first: usize, i: usize)
     }
 }
 
-fn each(text: &[u8], call: usize, first: usize, past: usize)
-    requires { ⌜ past ≤ 44 ⌝ }
-{
-    let mut i = first;
-    while i < past {
-        ends(text, call, first, i);
-        i += 1;
-    }
-}
-
 // All numbers from a place on beyond: the first of them is told. It counts down, so that one row serves.
 fn several(text: &[u8], call: usize, first: usize, past: usize)
     requires { ⌜ past ≤ 44 ⌝ }
@@ -64,6 +54,10 @@ fn several(text: &[u8], call: usize, first: usize, past: usize)
 pub(crate) fn part(text: &[u8], call: usize, first: usize, past: usize)
     requires { ⌜ past ≤ 44 ⌝ }
 {
-    each(text, call, first, past);
+    let mut i = first;
+    while i < past {
+        ends(text, call, first, i);
+        i += 1;
+    }
     several(text, call, first, past);
 }

@@ -18,6 +18,7 @@ const NAMES: [u8; 120] =
 
 const SIZES: [usize; 10] = [4, 4, 9, 9, 8, 5, 9, 7, 8, 12];
 
+// No state's number is above 9 and no size above 12: the remainders change nothing, and say so to the prover.
 fn say_state(state: u8) {
     let n = (state % 10) as usize;
     let from = 12 * n;

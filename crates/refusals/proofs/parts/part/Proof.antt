@@ -1,8 +1,8 @@
--- `each` counts the numbers of its part.
+-- `part` counts its numbers, and then hands them all to `several`.
 use Prim.Native.Nat.{_≤_, _-_}
 use borrow.Author.Needs.{needs}
-use Rattle.refusals.proofs.parts.each.Statement.{statement}
-use Rattle.refusals.proofs.parts.each.Tie as tie
+use Rattle.refusals.proofs.parts.part.Statement.{statement}
+use Rattle.refusals.proofs.parts.part.Tie as tie
 
 abbrev Inv-loop : tie.InvT-loop
 Inv-loop text call first past i₀ i = first ≤ i
@@ -10,8 +10,8 @@ Inv-loop text call first past i₀ i = first ≤ i
 abbrev μ-loop : tie.MeasureT-loop
 μ-loop text call first past i₀ i = past - i
 
-pub each-spec : {M : Type 1} → statement M
-each-spec =
+pub part-spec : {M : Type 1} → statement M
+part-spec =
     tie.close
     (tie.spec
     Inv-loop
@@ -21,4 +21,5 @@ each-spec =
     (λ c. search needs)
     (λ c. search needs)
     (λ c. search needs)
+    (λ c κs. search needs)
     (λ c. search needs))
