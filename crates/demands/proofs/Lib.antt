@@ -11,3 +11,5 @@ pub mod OneReply
 pub mod Computes
 pub mod Bench
 pub mod Silence
+mod Grown
+pub mod Stream

@@ -1,3 +1,4 @@
 pub mod Supervised
 pub mod Bench
 pub mod Silence
+pub mod Stream

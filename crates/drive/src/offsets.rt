@@ -17,21 +17,7 @@ pub struct Offsets {
 }
 
 // The powers of two from 2^13 down to 2^1.
-const SAMPLES: [u32; 13] = [
-    8192,
-    4096,
-    2048,
-    1024,
-    512,
-    256,
-    128,
-    64,
-    32,
-    16,
-    8,
-    4,
-    2,
-];
+const SAMPLES: [u32; 13] = [8192, 4096, 2048, 1024, 512, 256, 128, 64, 32, 16, 8, 4, 2];
 
 // How many samples the offsets are measured over: N.
 pub(crate) fn samples(psc: u16) -> u32

@@ -85,7 +85,7 @@ fn serve(input: &mut [u8], output: &mut [u8]) {
 }
 
 // The shortest record has 6 bytes and a line 45, so 65,536 bytes hold the lines of everything that 8,192 bytes can ask for, and
-// after a run at most the 48 bytes of a short record are held.
+// after a run at most the 48 bytes of a short record are held: `one-stream` and `left-few` of crates/demands/proofs/Stream.antt.
 fn main() {
     let mut input = [0u8; 8192];
     let mut output = [0u8; 65536];
