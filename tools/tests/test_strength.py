@@ -57,6 +57,14 @@ class Strength(unittest.TestCase):
     def test_a_truth_value_is_turned(self):
         self.assertEqual(self.changed("    f(true)"), ["    f(false)"])
 
+    def test_the_last_byte_of_a_text_is_another(self):
+        self.assertEqual(self.changed('    *b"STOP....",'), ['    *b"STOP..._",'])
+        self.assertEqual(self.changed('    *b"SENSING7",'), ['    *b"SENSING.",'])
+        self.assertEqual(self.changed("    if below { b'-' }"), ["    if below { b'.' }"])
+
+    def test_a_constant_of_one_line_is_changed(self):
+        self.assertEqual(strength.code_lines("// 1\nconst LENGTH: usize = 45;\npub struct Line {\n    pub length: u8,\n}"), [1])
+
     def test_a_denial_is_dropped(self):
         self.assertEqual(self.changed("    !armed"), ["    armed"])
 
