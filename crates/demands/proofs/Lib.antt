@@ -13,3 +13,4 @@ pub mod Bench
 pub mod Silence
 mod Grown
 pub mod Stream
+pub mod Errors

@@ -52,11 +52,9 @@ pub fn answered(drive: Drive, number: u8, place: u8) -> Answer
     ensures { λ r. ⌜ r ≡ answer number place drive ⌝ }
 {
     let settings = drive.settings;
-    let flags = drive.flags;
-    let alive = flags.live(settings[FAULT_ENABLE]);
+    let alive = drive.flags.live(settings[FAULT_ENABLE]);
     let state = drive.state;
     let run = drive.run;
-    let hall = drive.hall;
     let offsets = drive.offsets.value;
     Answer {
         number,
@@ -65,8 +63,8 @@ pub fn answered(drive: Drive, number: u8, place: u8) -> Answer
         gate: gate(state, alive),
         live: alive.word(),
         reference: reported(run.reference),
-        position: hall.position,
-        angle: hall.angle,
+        position: drive.hall.position,
+        angle: drive.hall.angle,
         offsets,
         retries: drive.retries,
     }

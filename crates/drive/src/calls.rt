@@ -23,19 +23,15 @@ ghost use Rattle.drive.specs.Calls.{fresh, powerUp, load, sample, summed
 fn fresh(state: State, settings: [u16; 24]) -> Drive
     ensures { λ r. ⌜ r ≡ fresh state settings ⌝ }
 {
-    let hall = Hall::power_up();
-    let flags = Flags::none();
-    let offsets = Offsets::unmeasured();
-    let run = Run::still();
     Drive {
         state,
         settings,
-        hall,
-        flags,
+        hall: Hall::power_up(),
+        flags: Flags::none(),
         cycles: 0,
         ticks: 0,
-        offsets,
-        run,
+        offsets: Offsets::unmeasured(),
+        run: Run::still(),
         armed: false,
         retries: 0,
     }
@@ -91,8 +87,8 @@ impl Drive {
         ensures { λ r. ⌜ r ≡ sample self cycle ⌝ }
     {
         let settings = self.settings;
-        let hall = self.hall;
-        hall.sampled(cycle.pattern, signed(settings[HALL_ANGLE_OFFSET]))
+        self.hall
+            .sampled(cycle.pattern, signed(settings[HALL_ANGLE_OFFSET]))
     }
 
     fn summed(self, cycle: Cycle) -> Offsets
@@ -100,9 +96,12 @@ impl Drive {
     {
         let settings = self.settings;
         let state = self.state;
-        let offsets = self.offsets;
         let counts = (number(state) == 2) & (self.cycles < samples(settings[OFFSET_PSC]));
-        pick_offsets(counts, offsets.added(cycle.first, cycle.second), offsets)
+        pick_offsets(
+            counts,
+            self.offsets.added(cycle.first, cycle.second),
+            self.offsets,
+        )
     }
 
     fn cycled(self, cycle: Cycle) -> Drive
@@ -110,20 +109,17 @@ impl Drive {
     {
         let state = self.state;
         let settings = self.settings;
-        let old = self.flags;
         let run = self.run;
         let sampled = self.sample(cycle);
         let hall = sampled.hall;
-        let flags = old.with_hall(sampled.flagged);
-        let offsets = self.summed(cycle);
         Drive {
             state,
             settings,
             hall,
-            flags,
+            flags: self.flags.with_hall(sampled.flagged),
             cycles: count_up(self.cycles, 65535),
             ticks: self.ticks,
-            offsets,
+            offsets: self.summed(cycle),
             run,
             armed: self.armed,
             retries: self.retries,

@@ -17,7 +17,6 @@ impl Drive {
     {
         let settings = self.settings;
         let state = self.state;
-        let hall = self.hall;
         let running = number(state) == 4;
         Flags {
             kill: tick.kill == 1,
@@ -28,7 +27,7 @@ impl Drive {
             heat: settings[T_SHUTDOWN] < tick.temperature,
             lock: running & watched.locked,
             timeout: running & watched.timeout,
-            hall: hall.dead == 2,
+            hall: self.hall.dead == 2,
         }
     }
 }

@@ -125,13 +125,11 @@ impl Drive {
     {
         let state = self.state;
         let settings = self.settings;
-        let offsets = self.offsets;
-        let measured = offsets.measured;
         let n = self.nth();
         let speed = tick.absolute_speed();
         match state {
             State::Idle => Move::Stay,
-            State::Stop => from_stop(measured, self.armed, high),
+            State::Stop => from_stop(self.offsets.measured, self.armed, high),
             State::OffsetCal => from_offset_cal(settings, self.cycles),
             State::BtsCharge => from_bts_charge(settings, self.cycles),
             State::MotorRun => Move::Stay,

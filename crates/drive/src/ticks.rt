@@ -107,8 +107,7 @@ impl Drive {
         ensures { λ r. ⌜ r ≡ entered self tick flags armed state ⌝ }
     {
         let n = number(state);
-        let old = self.offsets;
-        let offsets = pick_offsets(n == 2, old.cleared(), old);
+        let offsets = pick_offsets(n == 2, self.offsets.cleared(), self.offsets);
         let run = pick_run(n == 4, tick.starting(), Run::still());
         self.arrive(
             state,
@@ -127,10 +126,9 @@ impl Drive {
         let settings = self.settings;
         let hall = self.hall;
         let offsets = self.offsets;
-        let old = self.run;
         let run = pick_run(
             number(state) == 4,
-            old.ran(settings, tick, watched),
+            self.run.ran(settings, tick, watched),
             Run::still(),
         );
         Drive {
@@ -151,12 +149,11 @@ impl Drive {
         ensures { λ r. ⌜ r ≡ measured self flags armed ⌝ }
     {
         let settings = self.settings;
-        let offsets = self.offsets;
         let n = samples(settings[OFFSET_PSC]);
         self.arrive(
             State::Stop,
             flags,
-            offsets.measured_by(n),
+            self.offsets.measured_by(n),
             Run::still(),
             armed,
             self.retries,
@@ -167,12 +164,11 @@ impl Drive {
         ensures { λ r. ⌜ r ≡ retried self ⌝ }
     {
         let settings = self.settings;
-        let offsets = self.offsets;
         let retries = count_up(self.retries, settings[RETRY_LIMIT] as u32);
         self.arrive(
             State::Stop,
             Flags::none(),
-            offsets,
+            self.offsets,
             Run::still(),
             true,
             retries,
@@ -187,8 +183,14 @@ impl Drive {
             Move::Enter(state) => self.entered(tick, flags, armed, state),
             Move::Measure => self.measured(flags, armed),
             Move::Clear => {
-                let offsets = self.offsets;
-                self.arrive(State::Stop, Flags::none(), offsets, Run::still(), armed, 0)
+                self.arrive(
+                    State::Stop,
+                    Flags::none(),
+                    self.offsets,
+                    Run::still(),
+                    armed,
+                    0,
+                )
             }
             Move::Retry => self.retried(),
         }
@@ -199,12 +201,9 @@ impl Drive {
     {
         let state = self.state;
         let settings = self.settings;
-        let run = self.run;
-        let hall = self.hall;
-        let old = self.flags;
-        let watched = run.watched(settings, tick, hall.still);
+        let watched = self.run.watched(settings, tick, self.hall.still);
         let standing = self.causes(tick, watched);
-        let raised = old.either(standing);
+        let raised = self.flags.either(standing);
         let is_low = low(settings, tick);
         let is_high = high(settings, tick);
         let mask = settings[FAULT_ENABLE];

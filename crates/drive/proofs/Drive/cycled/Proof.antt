@@ -8,8 +8,8 @@ returns : tie.Need-returns
 unfolding cycled
 returns c =
     rw (
-      c .count-up .ensures,
-      c .before .summed .ensures,
+      c .summed .ensures,
+      c .before .count-up .ensures,
       c .before .before .with-hall .ensures,
       c .before .before .before .before .sample .ensures,
     )

@@ -12,7 +12,7 @@ returns c =
       c .before .before .before .starting .ensures,
       c .before .before .before .before .pick-offsets .ensures,
       c .before .before .before .before .before .cleared .ensures,
-      c .before .before .before .before .before .before .before .number .ensures,
+      c .before .before .before .before .before .before .number .ensures,
     )
 
 pub entered-spec : {M : Type 1} → statement M

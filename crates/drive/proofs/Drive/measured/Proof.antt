@@ -7,7 +7,7 @@ use Rattle.drive.proofs.Drive.measured.Statement.{statement}
 use Rattle.drive.proofs.Drive.measured.Tie as tie
 
 measured-by-requires : tie.Need-measured-by-requires
-measured-by-requires c κs = rw (c .samples .ensures) (pow-pos (13 - OffsetPsc (c .before .before .before .args .self .settings)))
+measured-by-requires c κs = rw (c .samples .ensures) (pow-pos (13 - OffsetPsc (c .before .before .args .self .settings)))
 
 returns : tie.Need-returns
 returns c =

@@ -27,7 +27,7 @@ returns-3 c =
 returns-4 : tie.Need-returns-4
 returns-4 c =
     rw (
-      c .before .before .before .before .enum-told3 .given .1,
+      c .before .before .before .enum-told3 .given .1,
       c .arrive .ensures,
       c .before .still .ensures,
       c .before .before .none .ensures,

@@ -9,7 +9,7 @@ use Rattle.drive.proofs.answer.answered.Tie as tie
 returns : tie.Need-returns
 unfolding answer
 returns c =
-    let drive = c .before .before .before .before .before .before .before .before .before .before .before .before .args .drive in
+    let drive = c .before .before .before .before .before .before .before .before .before .before .args .drive in
     rw (
       toZ-ofZ {w = w16} {z = c .before .reported .result} (search needs),
       toZ-ofZ {w = w16} {z = drive .hall .angle} (search needs),
@@ -18,7 +18,7 @@ returns c =
       c .before .before .before .word .ensures,
       c .before .before .before .before .gate .ensures,
       c .before .before .before .before .before .number .ensures,
-      c .before .before .before .before .before .before .before .before .before .live .ensures,
+      c .before .before .before .before .before .before .before .before .live .ensures,
     )
 
 pub answered-spec : {M : Type 1} → statement M
