@@ -2,14 +2,14 @@
 use Rattle.hall.specs.Fate
 use Rattle.hall.specs.Angle
 use Rattle.hall.specs.Sample
-use Rattle.drive.specs.Reference
+use Rattle.motor.specs.Reference
 use Rattle.drive.specs.Answer
 use Rattle.drive.specs.Causes
-use Rattle.drive.specs.Run
-use Rattle.drive.specs.Moves
+use Rattle.motor.specs.Counts
+use Rattle.moves.specs.Moves
 use Rattle.settings.specs.Rules
 use Rattle.drive.specs.Calls
 
 unfoldable pub computes : Unit {0}
-unfolding Fate.fate Fate.beside Angle.twelfth Angle.sectorOf Angle.withOffset Sample.sampled Sample.deadSample Sample.straySample Reference.toward Reference.target0 Reference.targetOf Answer.answer Causes.causes Run.watched Moves.moveOf Rules.settingRows Calls.load Calls.cycle Calls.tick Calls.cycled Calls.ticked
+unfolding Fate.fate Fate.beside Angle.twelfth Angle.sectorOf Angle.withOffset Sample.sampled Sample.deadSample Sample.straySample Reference.toward Reference.target0 Reference.targetOf Answer.answer Causes.causes Counts.watched Moves.moveOf Rules.settingRows Calls.load Calls.cycle Calls.tick Calls.cycled Calls.ticked
 computes = tt

@@ -5,12 +5,12 @@ use Prim.Native.Nat.{ℕ}
 use lib.Dec.{T, eqb}
 use Rattle.numbers.specs.Choose.{pick}
 use Rattle.history.proofs.Bools.{or-left, or-right, or-cases}
-use Rattle.drive.specs.State.{turning}
+use Rattle.states.specs.States.{turning}
 use Rattle.drive.specs.Flags.{any, live, either, withHall, bit}
 use Rattle.drive.specs.Answer.{gateOf, gate}
 use Rattle.drive.specs.declared.flags.Flags.{Flags}
-use Rattle.drive.specs.declared.state.State.{State}
-use Rattle.drive.specs.declared.state.State.the-variants.{Idle, Stop, OffsetCal, BtsCharge, MotorRun, Fault, CatchSpin, Parking, OpenLoop, AngleSensing}
+use Rattle.states.specs.declared.State.{State}
+use Rattle.states.specs.declared.State.the-variants.{Idle, Stop, OffsetCal, BtsCharge, MotorRun, Fault, CatchSpin, Parking, OpenLoop, AngleSensing}
 
 abbrev charges-or-drives : ℕ → Bool
 charges-or-drives n = eqb n 1 || eqb n 2

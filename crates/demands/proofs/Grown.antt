@@ -10,7 +10,7 @@ use lib.ListN.{length, length-append, List·getD-append}
 use borrow.Author.Tests.{ltb-true, ltb-false, le-ltb, ne-eqb, eqb-true, eqb-false}
 use Rattle.numbers.specs.Choose.{pick}
 use Rattle.drive.specs.Sequence.{Call, loads, cycles, ticks}
-use Rattle.records.specs.Fields.{byte, number, numbers, settingsOf, cycleOf, tickOf}
+use Rattle.records.specs.Decoded.{byte, number, numbers, settingsOf, cycleOf, tickOf}
 use Rattle.records.specs.Front.{sizeOf, Front, end, unknown, short, whole, held, front}
 
 positive : (n : ℕ) → eqb n 0 ≡ false → 0 < n

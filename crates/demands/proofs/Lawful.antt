@@ -16,23 +16,24 @@ use Rattle.history.specs.Laws.{Inside, Step, Lawful}
 use Rattle.history.proofs.Bools.{computed, or-right}
 use Rattle.history.proofs.Stays.{stays}
 use Rattle.history.proofs.Demand3.{demand3}
-use Rattle.drive.specs.State.{is}
-use Rattle.settings.specs.Settings.{FaultEnable, RetryLimit, CmdStart, CmdStop}
-use Rattle.drive.specs.Command.{low, high, mode1}
+use Rattle.states.specs.States.{is}
+use Rattle.settings.specs.Settings.{FaultEnable, RetryLimit, CmdStart, CmdStop, mode1}
+use Rattle.drive.specs.Command.{low, high}
 use Rattle.drive.specs.Flags.{any}
 use Rattle.drive.specs.Answer.{alive, answer}
 use Rattle.verdicts.specs.Table.{Row, row, verdict}
 use Rattle.settings.specs.Rules.{indices, lowest, highest, settingRows, settingRow, rule}
-use Rattle.drive.specs.Refusals.{loadRows, cycleRows, tickRows, tickFields}
+use Rattle.drive.specs.Refusals.{loadRows, cycleRows, tickRows}
+use Rattle.fields.specs.Fields.{tickFields}
 use Rattle.drive.specs.Calls.{fresh, settle, cycled, ticked, sample, standing, alight}
 use Rattle.drive.specs.Calls
 use Rattle.drive.specs.Sequence.{Call, loads, cycles, ticks, reply}
 use Rattle.drive.specs.declared.Drive.{Drive}
-use Rattle.drive.specs.declared.Cycle.{Cycle}
-use Rattle.drive.specs.declared.Tick.{Tick}
+use Rattle.fields.specs.declared.Cycle.{Cycle}
+use Rattle.fields.specs.declared.Tick.{Tick}
 use Rattle.verdicts.specs.declared.Verdict.{Verdict}
-use Rattle.drive.specs.declared.state.State.{State}
-use Rattle.drive.specs.declared.state.State.the-variants.{Idle, Stop, OffsetCal, BtsCharge, MotorRun, Fault, CatchSpin, Parking, OpenLoop, AngleSensing}
+use Rattle.states.specs.declared.State.{State}
+use Rattle.states.specs.declared.State.the-variants.{Idle, Stop, OffsetCal, BtsCharge, MotorRun, Fault, CatchSpin, Parking, OpenLoop, AngleSensing}
 use Rattle.demands.specs.Supervised.{supervisor, placeOf, turns}
 use Rattle.demands.proofs.Gates.{hall-alive}
 use Rattle.demands.proofs.Ticks.{inside, asks, tick-obeys, tick-keeps}

@@ -1,6 +1,5 @@
 -- The demands of this drive.
 pub mod Gates
-pub mod Allowed
 pub mod Places
 pub mod Steps
 pub mod Ticks

@@ -13,6 +13,18 @@ use Rattle.numbers.specs.Limit.{limit}
 use Rattle.verdicts.specs.Table.{Row, accepted, first, verdict}
 use Rattle.verdicts.specs.declared.Verdict.{Verdict}
 use Rattle.settings.specs.Rules.{settingRows}
+use Rattle.settings.specs.Settings.{samples}
+use Rattle.states.specs.States.{numberOf, turning}
+use Rattle.states.specs.declared.State.{State}
+use Rattle.fields.specs.Fields.{cycleFields, tickFields}
+use Rattle.fields.specs.declared.Cycle.{Cycle}
+use Rattle.fields.specs.declared.Tick.{Tick}
+use Rattle.motor.specs.Counts.{watched}
+use Rattle.motor.specs.Reference.{starting, ran}
+use Rattle.motor.specs.declared.Run.{Run}
+use Rattle.motor.specs.declared.Watched.{Watched}
+use Rattle.moves.specs.Moves.{moveOf}
+use Rattle.moves.specs.declared.Grounds.{Grounds}
 use Rattle.hall.specs.Fate.{fate}
 use Rattle.hall.specs.Sample.{poweredUp, sampled}
 use Rattle.hall.specs.declared.Hall.{Hall}
@@ -20,15 +32,11 @@ use Rattle.hall.specs.declared.fate.Kept.{Kept}
 use Rattle.drive.specs.Answer.{answer}
 use Rattle.drive.specs.Calls.{powerUp, load, cycle, tick}
 use Rattle.drive.specs.declared.Drive.{Drive}
-use Rattle.drive.specs.declared.Cycle.{Cycle}
-use Rattle.drive.specs.declared.Tick.{Tick}
 use Rattle.drive.specs.declared.answer.Answer.{Answer}
 use Rattle.report.specs.Refusals.{told}
 use Rattle.report.specs.Line.{written}
-use Rattle.records.specs.Front.{front}
-use Rattle.records.specs.Front.{told as toldOf}
-use Rattle.records.specs.Run.{run}
-use Rattle.records.specs.Run.{told as ranOf, written as ranWritten}
+use Rattle.records.specs.Front.{front, told as toldOf}
+use Rattle.records.specs.Run.{run, told as ranOf, written as ranWritten}
 
 -- the law
 one-reply : {A : Type 0} {promised r s : A} → r ≡ promised → s ≡ promised → r ≡ s
@@ -65,6 +73,9 @@ verdicts-first r later = settled (first r later)
 pub settings-verdict : (numbers : List ℕ) → Settled (verdict (settingRows numbers))
 settings-verdict numbers = settled (verdict (settingRows numbers))
 
+pub settings-samples : (psc : ℕ) → Settled (samples psc)
+settings-samples psc = settled (samples psc)
+
 -- hall
 pub judged : (pattern : ℕ) (kept : Kept) → Settled (fate pattern kept)
 judged pattern kept = settled (fate pattern kept)
@@ -74,6 +85,34 @@ hall-power-up = settled poweredUp
 
 pub hall-sampled : (hall : Hall) (pattern : ℕ) (offset : ℤ) → Settled (sampled hall pattern offset)
 hall-sampled hall pattern offset = settled (sampled hall pattern offset)
+
+-- states
+pub number : (state : State) → Settled (numberOf state)
+number state = settled (numberOf state)
+
+pub is-turning : (state : State) → Settled (turning state)
+is-turning state = settled (turning state)
+
+-- fields
+pub cycle-verdict : (fields : Cycle) → Settled (verdict (cycleFields fields))
+cycle-verdict fields = settled (verdict (cycleFields fields))
+
+pub tick-verdict : (fields : Tick) → Settled (verdict (tickFields fields))
+tick-verdict fields = settled (verdict (tickFields fields))
+
+-- motor
+pub run-watched : (settings : List ℕ) (t : Tick) (stillCount : ℕ) (r : Run) → Settled (watched settings t stillCount r)
+run-watched settings t stillCount r = settled (watched settings t stillCount r)
+
+pub run-starting : (t : Tick) → Settled (starting t)
+run-starting t = settled (starting t)
+
+pub run-ran : (settings : List ℕ) (t : Tick) (w : Watched) (r : Run) → Settled (ran settings t w r)
+run-ran settings t w r = settled (ran settings t w r)
+
+-- moves
+pub move-of : (g : Grounds) → Settled (moveOf g)
+move-of g = settled (moveOf g)
 
 -- drive
 pub power-up : Settled powerUp

@@ -3,11 +3,11 @@ use mathlib.Core.Path.{_≡_, refl}
 use mathlib.Core.Bool.{Bool, not, _&&_}
 use lib.Dec.{T}
 use Rattle.history.specs.Onlooker.{Place, atStop, atStart, atRun, atFault, elsewhere, isStartOrRun, isFault}
-use Rattle.drive.specs.State.{is, turning}
-use Rattle.drive.specs.declared.state.State.{State}
-use Rattle.drive.specs.declared.state.State.the-variants.{Idle, Stop, OffsetCal, BtsCharge, MotorRun, Fault, CatchSpin, Parking, OpenLoop, AngleSensing}
+use Rattle.states.specs.States.{is, turning}
+use Rattle.states.specs.declared.State.{State}
+use Rattle.states.specs.declared.State.the-variants.{Idle, Stop, OffsetCal, BtsCharge, MotorRun, Fault, CatchSpin, Parking, OpenLoop, AngleSensing}
 use Rattle.demands.specs.Supervised.{placeOf}
-use Rattle.demands.proofs.Allowed.{isRun}
+use Rattle.moves.proofs.Ways.{isRun}
 
 pub turning-place : (state : State) → turning state ≡ isStartOrRun (placeOf state)
 turning-place Idle = refl

@@ -14,12 +14,12 @@ use Rattle.drive.specs.Calls
 use Rattle.drive.specs.Calls.{settle}
 use Rattle.drive.specs.Sequence.{Call, loads, cycles, ticks, reply}
 use Rattle.drive.specs.declared.Drive.{Drive}
-use Rattle.drive.specs.declared.Cycle.{Cycle}
-use Rattle.drive.specs.declared.Tick.{Tick}
+use Rattle.fields.specs.declared.Cycle.{Cycle}
+use Rattle.fields.specs.declared.Tick.{Tick}
 use Rattle.drive.specs.declared.flags.Flags.{Flags}
-use Rattle.drive.specs.declared.run.Watched.{Watched}
-use Rattle.drive.specs.declared.moves.Move.{Move}
-use Rattle.drive.specs.declared.moves.Move.the-variants.{Stay, Enter, Measure, Clear, Retry}
+use Rattle.motor.specs.declared.Watched.{Watched}
+use Rattle.moves.specs.declared.Move.{Move}
+use Rattle.moves.specs.declared.Move.the-variants.{Stay, Enter, Measure, Clear, Retry}
 use Rattle.verdicts.specs.declared.Verdict.{Verdict}
 
 -- the table of refusals of a call
@@ -71,4 +71,4 @@ pub tick-keeps-settings : (d : Drive) (t : Tick) → Calls.tick d t .drive .sett
 unfolding Calls.tick Calls.ticked
 tick-keeps-settings d t =
     settled-settings (verdict (tickRows d t)) (Calls.ticked d t) d
-    (settings-moved d t (Causes.watch d t) (Calls.raised d t) (Calls.arms d t) (Calls.chosen d t))
+    (settings-moved d t (Calls.watch d t) (Calls.raised d t) (Calls.arms d t) (Calls.chosen d t))

@@ -7,13 +7,13 @@ use native.Mathlib.Nat.{add-zero}
 use lib.Dec.{T, leb, lit≤}
 use borrow.Author.Tests.{lt-leb}
 use Rattle.numbers.specs.Count.{up}
-use Rattle.drive.specs.State.{is}
+use Rattle.states.specs.States.{is}
 use Rattle.drive.specs.Flags.{none}
 use Rattle.drive.specs.Calls.{powerUp}
 use Rattle.drive.specs.Sequence.{reply}
 use lib.IntN.{pos, negsuc}
 use Rattle.hall.specs.declared.fate.Kept.the-variants.{Pattern}
-use Rattle.drive.specs.declared.state.State.the-variants.{Stop, Fault}
+use Rattle.states.specs.declared.State.the-variants.{Stop, Fault}
 use Rattle.drive.specs.declared.Drive.{Drive}
 use Rattle.demands.proofs.Computes.{computes}
 use Rattle.demands.specs.Bench.{settings, after, times}

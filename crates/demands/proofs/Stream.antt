@@ -12,7 +12,7 @@ use Rattle.drive.specs.Sequence.{Call, loads, cycles, ticks, reply}
 use Rattle.drive.specs.declared.Drive.{Drive}
 use Rattle.report.specs.Refusals.{lineLength}
 use Rattle.report.specs.Line.{line}
-use Rattle.records.specs.Fields.{settingsOf, cycleOf, tickOf}
+use Rattle.records.specs.Decoded.{settingsOf, cycleOf, tickOf}
 use Rattle.records.specs.Front.{sizeOf, Front, end, unknown, short, whole, front}
 use Rattle.records.specs.Run.{Outcome, rest, refused, onto, runs, run}
 use Rattle.records.proofs.Meaning.{View, at-end, at-unknown, at-short, at-load, at-cycle, at-tick, view}

@@ -9,26 +9,25 @@ use Rattle.numbers.specs.Count.{up}
 use Rattle.history.specs.Onlooker.{atStop, atRun, atFault, elsewhere, tick, noted}
 use Rattle.history.specs.Laws.{Inside, Step}
 use Rattle.hall.specs.declared.Hall.{Hall}
-use Rattle.drive.specs.State.{is, turning}
+use Rattle.states.specs.States.{is, turning}
 use Rattle.settings.specs.Settings.{FaultEnable, RetryLimit}
 use Rattle.drive.specs.Flags.{any}
 use Rattle.drive.specs.Command.{low, high}
 use Rattle.drive.specs.Answer.{alive}
-use Rattle.drive.specs.Causes.{watch}
-use Rattle.drive.specs.Moves.{moveOf}
-use Rattle.drive.specs.Calls.{standing, raised, alight, arms, moved, ticked}
+use Rattle.drive.specs.Calls.{watch, standing, raised, alight, arms, grounds, chosen, moved, ticked}
+use Rattle.moves.proofs.Ways.{Way, trips, stops, goes-on, calibrates, starts, measures, clears, tries-again, stays, way-of}
 use Rattle.drive.specs.declared.Drive.{Drive}
-use Rattle.drive.specs.declared.Tick.{Tick}
+use Rattle.fields.specs.declared.Tick.{Tick}
 use Rattle.drive.specs.declared.flags.Flags.{Flags}
 use Rattle.drive.specs.declared.offsets.Offsets.{Offsets}
-use Rattle.drive.specs.declared.run.Run.{Run}
-use Rattle.drive.specs.declared.state.State.{State}
-use Rattle.drive.specs.declared.state.State.the-variants.{Stop, OffsetCal, BtsCharge, Fault}
-use Rattle.drive.specs.declared.moves.Move.{Move}
-use Rattle.drive.specs.declared.moves.Move.the-variants.{Stay, Enter, Measure, Clear, Retry}
+use Rattle.motor.specs.declared.Run.{Run}
+use Rattle.states.specs.declared.State.{State}
+use Rattle.states.specs.declared.State.the-variants.{Stop, OffsetCal, BtsCharge, Fault}
+use Rattle.moves.specs.declared.Grounds.{Grounds}
+use Rattle.moves.specs.declared.Move.{Move}
+use Rattle.moves.specs.declared.Move.the-variants.{Stay, Enter, Measure, Clear, Retry}
 use Rattle.demands.specs.Supervised.{placeOf, turns}
 use Rattle.demands.proofs.Gates.{gates-by, either-alive}
-use Rattle.demands.proofs.Allowed.{Allowed, stays, trips, stops, calibrates, starts, runs, measures, clears, retries, moveAt, allowed}
 use Rattle.demands.proofs.Places.{turning-place, fault-place, run-place, run-loaded, run-unarmed, no-fault}
 use Rattle.demands.proofs.Steps.{holds, Asks, Arms, stays-law, rests-law, starts-law, runs-law, clears-law, retries-law}
 
@@ -72,6 +71,14 @@ stays-unarmed true false true t = tt
 stays-unarmed true false false t = tt
 stays-unarmed false armed low t = tt
 
+not-both : (a b : Bool) → (T a → T (not b)) → T (not (a && b))
+not-both true b f = f tt
+not-both false b f = tt
+
+one-of : (a b : Bool) → (T (not a) → T b) → T (a || b)
+one-of true b f = tt
+one-of false b f = f tt
+
 -- ---- a tick in a state, of a drive whose other fields are anything
 
 module _ (settings : List ℕ) (hall : Hall) (flags : Flags) (cycles ticks : ℕ) (offsets : Offsets) (run : Run)
@@ -97,6 +104,9 @@ module _ (settings : List ℕ) (hall : Hall) (flags : Flags) (cycles ticks : ℕ
   abbrev blocked : State → Bool
   blocked state = alight (at state) (standing (at state) t)
 
+  abbrev on : State → Grounds
+  on state = grounds (at state) t (standing (at state) t) (raised (at state) t)
+
   kept : (state : State) → T (any (alive (at state))) → T (tripped state)
   kept state = either-alive (FaultEnable settings) flags (standing (at state) t)
 
@@ -115,17 +125,17 @@ module _ (settings : List ℕ) (hall : Hall) (flags : Flags) (cycles ticks : ℕ
       → T (not (is 0 state))
       → T (not (is 5 state && armed))
       → (T (high settings t) → T (not (low settings t)))
-      → Allowed (at state) t (high settings t) (blocked state) (tripped state) (low settings t) state move
+      → Way (on state) state move
       → Obeys state (next state move)
   by-move state Stay loaded fault apart (stays no-low no-trip) =
       stays-law (placeOf state) (not (is 0 state)) armed (armed || low settings t && not (is 5 state)) (any (alive (at state)))
       (tripped state) (low settings t) (eqb (t .clear) 1) (blocked state) (turns (next state Stay)) used (RetryLimit settings)
       (kept state)
-      (rw (← turning-place state) no-low)
-      (rw (← fault-place state) no-trip)
+      (rw (← turning-place state) (not-both (turning state) (low settings t) no-low))
+      (rw (← fault-place state) (one-of (is 5 state) (not (tripped state)) no-trip))
       (arming armed (low settings t) (not (is 5 state)))
       (asks (next state Stay))
-  by-move state (Enter Fault) loaded fault apart (trips free) =
+  by-move state (Enter Fault) loaded fault apart (trips free trip) =
       rests-law (placeOf state) atFault (not (is 0 state)) true armed ((armed || low settings t && not (is 5 state)) && false)
       (any (alive (at state))) (tripped state) (low settings t) (eqb (t .clear) 1) (blocked state)
       (turns (next state (Enter Fault))) used (RetryLimit settings)
@@ -134,7 +144,7 @@ module _ (settings : List ℕ) (hall : Hall) (flags : Flags) (cycles ticks : ℕ
       tt
       (arming-with armed (low settings t) (not (is 5 state)) false)
       (asks (next state (Enter Fault)))
-  by-move state (Enter Stop) loaded fault apart (stops turns-on no-trip) =
+  by-move state (Enter Stop) loaded fault apart (stops turns-on is-low no-trip) =
       rests-law (placeOf state) atStop (not (is 0 state)) true armed ((armed || low settings t && not (is 5 state)) && true)
       (any (alive (at state))) (tripped state) (low settings t) (eqb (t .clear) 1) (blocked state)
       (turns (next state (Enter Stop))) used (RetryLimit settings)
@@ -143,14 +153,14 @@ module _ (settings : List ℕ) (hall : Hall) (flags : Flags) (cycles ticks : ℕ
       tt
       (arming-with armed (low settings t) (not (is 5 state)) true)
       (asks (next state (Enter Stop)))
-  by-move Stop (Enter OffsetCal) loaded fault apart (calibrates no-trip) =
+  by-move Stop (Enter OffsetCal) loaded fault apart (calibrates unmeasured no-trip) =
       rests-law atStop elsewhere true true armed ((armed || low settings t && true) && true)
       (any (alive (at Stop))) (tripped Stop) (low settings t) (eqb (t .clear) 1) (blocked Stop)
       (turns (next Stop (Enter OffsetCal))) used (RetryLimit settings)
       tt tt tt
       (arming-with armed (low settings t) true true)
       (asks (next Stop (Enter OffsetCal)))
-  by-move Stop (Enter BtsCharge) loaded fault apart (starts is-armed is-high no-trip) =
+  by-move Stop (Enter BtsCharge) loaded fault apart (starts measured is-armed is-high no-trip) =
       starts-law armed ((armed || low settings t && true) && false) (any (alive (at Stop))) (tripped Stop) (low settings t)
       (eqb (t .clear) 1) (blocked Stop) (turns (next Stop (Enter BtsCharge))) used (RetryLimit settings)
       is-armed
@@ -158,7 +168,7 @@ module _ (settings : List ℕ) (hall : Hall) (flags : Flags) (cycles ticks : ℕ
       no-trip
       (apart is-high)
       (asks (next Stop (Enter BtsCharge)))
-  by-move state (Enter after) loaded fault apart (runs turns-on on-run no-low no-trip) =
+  by-move state (Enter after) loaded fault apart (goes-on turns-on on-run no-low no-trip) =
       let place : placeOf after ≡ atRun = run-place after on-run in
       let after-armed : Bool = (armed || low settings t && not (is 5 state)) && not (is 3 after || is 5 after) in
       rw place
@@ -171,7 +181,7 @@ module _ (settings : List ℕ) (hall : Hall) (flags : Flags) (cycles ticks : ℕ
       no-low
       (arming-with armed (low settings t) (not (is 5 state)) (not (is 3 after || is 5 after)))
       (rw place at (asks (next state (Enter after)))))
-  by-move OffsetCal Measure loaded fault apart (measures no-trip) =
+  by-move OffsetCal Measure loaded fault apart (measures done no-trip) =
       rests-law elsewhere atStop true true armed (armed || low settings t && true) (any (alive (at OffsetCal)))
       (tripped OffsetCal) (low settings t) (eqb (t .clear) 1) (blocked OffsetCal) (turns (next OffsetCal Measure)) used
       (RetryLimit settings)
@@ -185,7 +195,7 @@ module _ (settings : List ℕ) (hall : Hall) (flags : Flags) (cycles ticks : ℕ
       clear
       no-cause
       (asks (next Fault Clear))
-  by-move Fault Retry loaded fault apart (retries no-cause held room) =
+  by-move Fault Retry loaded fault apart (tries-again no-cause held mode late room) =
       retries-law armed (any (alive (at Fault))) (low settings t) (eqb (t .clear) 1) (blocked Fault)
       (turns (next Fault Retry)) used (up (RetryLimit settings) used) (RetryLimit settings)
       room
@@ -202,24 +212,23 @@ module _ (settings : List ℕ) (hall : Hall) (flags : Flags) (cycles ticks : ℕ
       (state : State) (move : Move)
       → T (not (is 0 state))
       → T (not (is 5 state && armed))
-      → Allowed (at state) t (high settings t) (blocked state) (tripped state) (low settings t) state move
+      → Way (on state) state move
       → Keeps (next state move)
   keeps-move state Stay loaded fault (stays no-low no-trip) = (refl, loaded, stays-unarmed (is 5 state) armed (low settings t) fault)
-  keeps-move state (Enter Fault) loaded fault (trips free) = (refl, tt, disarmed (armed || low settings t && not (is 5 state)))
-  keeps-move state (Enter Stop) loaded fault (stops turns-on no-trip) = (refl, tt, tt)
-  keeps-move Stop (Enter OffsetCal) loaded fault (calibrates no-trip) = (refl, tt, tt)
-  keeps-move Stop (Enter BtsCharge) loaded fault (starts is-armed is-high no-trip) = (refl, tt, tt)
-  keeps-move state (Enter after) loaded fault (runs turns-on on-run no-low no-trip) =
+  keeps-move state (Enter Fault) loaded fault (trips free trip) = (refl, tt, disarmed (armed || low settings t && not (is 5 state)))
+  keeps-move state (Enter Stop) loaded fault (stops turns-on is-low no-trip) = (refl, tt, tt)
+  keeps-move Stop (Enter OffsetCal) loaded fault (calibrates unmeasured no-trip) = (refl, tt, tt)
+  keeps-move Stop (Enter BtsCharge) loaded fault (starts measured is-armed is-high no-trip) = (refl, tt, tt)
+  keeps-move state (Enter after) loaded fault (goes-on turns-on on-run no-low no-trip) =
       (refl, run-loaded after on-run, run-unarmed after on-run ((armed || low settings t && not (is 5 state)) && not (is 3 after || is 5 after)))
-  keeps-move OffsetCal Measure loaded fault (measures no-trip) = (refl, tt, tt)
+  keeps-move OffsetCal Measure loaded fault (measures done no-trip) = (refl, tt, tt)
   keeps-move Fault Clear loaded fault (clears no-cause clear) = (refl, tt, tt)
-  keeps-move Fault Retry loaded fault (retries no-cause held room) = (refl, tt, tt)
+  keeps-move Fault Retry loaded fault (tries-again no-cause held mode late room) = (refl, tt, tt)
 
   pub tick-keeps : (state : State) → T (not (is 0 state)) → T (not (is 5 state && armed)) → Keeps (ticked (at state) t)
-  unfolding ticked moveOf
+  unfolding ticked
   tick-keeps state loaded fault =
-      keeps-move state (moveAt (at state) t (high settings t) (blocked state) state (tripped state) (low settings t)) loaded fault
-      (allowed (at state) t (high settings t) (blocked state) state (tripped state) (low settings t))
+      keeps-move state (chosen (at state) t) loaded fault (way-of (on state))
 
   -- the tick itself
   pub tick-obeys :
@@ -228,7 +237,6 @@ module _ (settings : List ℕ) (hall : Hall) (flags : Flags) (cycles ticks : ℕ
       → T (not (is 5 state && armed))
       → (T (high settings t) → T (not (low settings t)))
       → Obeys state (ticked (at state) t)
-  unfolding ticked moveOf
+  unfolding ticked
   tick-obeys state loaded fault apart =
-      by-move state (moveAt (at state) t (high settings t) (blocked state) state (tripped state) (low settings t)) loaded fault apart
-      (allowed (at state) t (high settings t) (blocked state) state (tripped state) (low settings t))
+      by-move state (chosen (at state) t) loaded fault apart (way-of (on state))

@@ -8,18 +8,18 @@ use Rattle.hall.specs.Sample.{sampled, poweredUp, number}
 use Rattle.hall.specs.declared.Hall.{Hall}
 use Rattle.hall.specs.declared.Sampled.{Sampled}
 use Rattle.hall.specs.declared.fate.Fate.the-variants.{Dead}
-use Rattle.drive.specs.State.{is}
+use Rattle.states.specs.States.{is}
 use Rattle.drive.specs.Flags.{none}
-use Rattle.drive.specs.Run.{still}
-use Rattle.drive.specs.Reference.{times2048, target1}
+use Rattle.motor.specs.Counts.{still}
+use Rattle.motor.specs.Reference.{times2048, target1}
 use Rattle.drive.specs.Answer.{gate, answer}
 use Rattle.drive.specs.Calls.{fresh}
 use Rattle.drive.specs.Sequence.{Call, cycles, ticks, reply}
 use Rattle.drive.specs.declared.Drive.{Drive}
-use Rattle.drive.specs.declared.Cycle.{Cycle}
-use Rattle.drive.specs.declared.Tick.{Tick}
+use Rattle.fields.specs.declared.Cycle.{Cycle}
+use Rattle.fields.specs.declared.Tick.{Tick}
 use Rattle.drive.specs.declared.flags.Flags.{Flags}
-use Rattle.drive.specs.declared.state.State.the-variants.{Stop, MotorRun}
+use Rattle.states.specs.declared.State.the-variants.{Stop, MotorRun}
 
 -- two integers are the same
 abbrev pub same : ℤ → ℤ → Bool

@@ -11,8 +11,8 @@ use Rattle.drive.specs.Answer.{alive, gate}
 use Rattle.drive.specs.Calls.{powerUp, alight, standing}
 use Rattle.drive.specs.Sequence.{Call, loads, cycles, ticks, reply}
 use Rattle.drive.specs.declared.Drive.{Drive}
-use Rattle.drive.specs.declared.state.State.{State}
-use Rattle.drive.specs.declared.state.State.the-variants.{Idle, Stop, OffsetCal, BtsCharge, MotorRun, Fault, CatchSpin, Parking, OpenLoop, AngleSensing}
+use Rattle.states.specs.declared.State.{State}
+use Rattle.states.specs.declared.State.the-variants.{Idle, Stop, OffsetCal, BtsCharge, MotorRun, Fault, CatchSpin, Parking, OpenLoop, AngleSensing}
 
 -- STOP, BTSCHARGE that a start leads to, the other starting and running states 4, 6, 7, 8 and 9, FAULT, and IDLE and OFFSETCAL
 abbrev pub placeOf : State → Place

@@ -4,11 +4,11 @@ use lib.IntN.{ℤ, pos}
 use lib.Signed.{quotZ}
 use Rattle.numbers.specs.Choose.{pick}
 use Rattle.numbers.specs.Limit.{limit}
-use Rattle.drive.specs.State.{numberOf, is, turning}
+use Rattle.states.specs.States.{numberOf, is, turning}
 use Rattle.settings.specs.Settings.{FaultEnable}
 use Rattle.drive.specs.Flags.{live, any, word}
 use Rattle.drive.specs.declared.Drive.{Drive}
-use Rattle.drive.specs.declared.state.State.{State}
+use Rattle.states.specs.declared.State.{State}
 use Rattle.drive.specs.declared.flags.Flags.{Flags}
 use Rattle.drive.specs.declared.answer.Answer.{Answer}
 use Rattle.drive.specs.declared.answer.Reply.{Reply}

@@ -10,29 +10,30 @@ use Rattle.numbers.specs.Choose.{pick}
 use Rattle.numbers.specs.Count.{up}
 use Rattle.hall.specs.Sample.{sampled, poweredUp}
 use Rattle.hall.specs.declared.Sampled.{Sampled}
-use Rattle.drive.specs.State.{is}
-use Rattle.settings.specs.Settings.{FaultEnable, HallAngleOffset, OffsetPsc, RetryLimit}
+use Rattle.states.specs.States.{is}
+use Rattle.states.specs.declared.State.{State}
+use Rattle.states.specs.declared.State.the-variants.{Idle, Stop}
+use Rattle.settings.specs.Settings.{FaultEnable, HallAngleOffset, OffsetPsc, RetryLimit, samples}
+use Rattle.fields.specs.declared.Cycle.{Cycle}
+use Rattle.fields.specs.declared.Tick.{Tick}
+use Rattle.motor.specs.Counts.{still, watched}
+use Rattle.motor.specs.Reference.{starting, ran}
+use Rattle.motor.specs.declared.Run.{Run}
+use Rattle.motor.specs.declared.Watched.{Watched}
+use Rattle.moves.specs.Moves.{moveOf}
+use Rattle.moves.specs.declared.Grounds.{Grounds}
+use Rattle.moves.specs.declared.Move.{Move}
+use Rattle.moves.specs.declared.Move.the-variants.{Stay, Enter, Measure, Clear, Retry}
 use Rattle.drive.specs.Flags.{none, either, live, withHall, any}
 use Rattle.drive.specs.Command.{low, high}
-use Rattle.drive.specs.Offsets.{samples, unmeasured, added, measuredBy, cleared}
-use Rattle.drive.specs.Run.{still}
-use Rattle.drive.specs.Reference.{times2048, ramped}
-use Rattle.drive.specs.Causes.{watch, causes}
-use Rattle.drive.specs.Moves.{nth, moveOf}
+use Rattle.drive.specs.Offsets.{unmeasured, added, measuredBy, cleared}
+use Rattle.drive.specs.Causes.{causes}
 use Rattle.verdicts.specs.Table.{verdict}
 use Rattle.drive.specs.Refusals.{loadRows, cycleRows, tickRows}
 use Rattle.drive.specs.Answer.{reply}
 use Rattle.drive.specs.declared.Drive.{Drive}
-use Rattle.drive.specs.declared.Cycle.{Cycle}
-use Rattle.drive.specs.declared.Tick.{Tick}
-use Rattle.drive.specs.declared.state.State.{State}
-use Rattle.drive.specs.declared.state.State.the-variants.{Idle, Stop}
 use Rattle.drive.specs.declared.flags.Flags.{Flags}
 use Rattle.drive.specs.declared.offsets.Offsets.{Offsets}
-use Rattle.drive.specs.declared.run.Run.{Run}
-use Rattle.drive.specs.declared.run.Watched.{Watched}
-use Rattle.drive.specs.declared.moves.Move.{Move}
-use Rattle.drive.specs.declared.moves.Move.the-variants.{Stay, Enter, Measure, Clear, Retry}
 use Rattle.verdicts.specs.declared.Verdict.{Verdict}
 use Rattle.drive.specs.declared.answer.Reply.{Reply}
 
@@ -110,10 +111,6 @@ arrive d state flags offsets run armed retries =
       retries = retries;
     }
 
--- "Entering MOTORRUN takes the measured speed."
-abbrev pub starting : Tick → Run
-starting t = record { slots = still .slots; lock = 0; still = 0; reference = times2048 (t .speed) }
-
 -- "Entering .. in OFFSETCAL its sums"; "A start or entry to FAULT disarms, also in that tick."
 abbrev pub entered : Drive → Tick → Flags → Bool → State → Drive
 entered d t flags armed state =
@@ -123,9 +120,9 @@ entered d t flags armed state =
     (armed && not (is 3 state || is 5 state))
     (d .retries)
 
--- a tick that stays in MOTORRUN: the counts go on, and the reference moves toward the target
-abbrev pub ran : List ℕ → Tick → Watched → Run → Run
-ran s t w r = record { slots = w .slots; lock = w .lock; still = w .still; reference = ramped s t (r .reference) }
+-- which tick of its state this one is, from 1; counted to 65535, past every number of ticks that is asked for
+abbrev pub nth : Drive → ℕ
+nth d = up 65535 (d .ticks)
 
 -- "Each tick staying there [MOTORRUN] moves it toward the target ..; other states hold 0."
 abbrev pub stayed : Drive → Tick → Watched → Flags → Bool → Drive
@@ -167,9 +164,13 @@ moved d t w flags armed Retry = retried d
 abbrev pub arms : Drive → Tick → Bool
 arms d t = d .armed || low (d .settings) t && not (is 5 (d .state))
 
--- the flags after the causes of this tick, and whether one is live; whether a live cause stands
+-- the counts of bits 4, 7 and 14 with this tick
+abbrev pub watch : Drive → Tick → Watched
+watch d t = watched (d .settings) t (d .hall .still) (d .run)
+
+-- the causes that stand, the flags with them, and whether one of some flags is live
 abbrev pub standing : Drive → Tick → Flags
-standing d t = causes d t (watch d t)
+standing d t = causes (d .settings) (is 4 (d .state)) (d .hall .dead) t (watch d t)
 
 abbrev pub raised : Drive → Tick → Flags
 raised d t = either (d .flags) (standing d t)
@@ -177,10 +178,27 @@ raised d t = either (d .flags) (standing d t)
 abbrev pub alight : Drive → Flags → Bool
 alight d flags = any (live (FaultEnable (d .settings)) flags)
 
--- the move of a tick
+-- what the move of a tick is decided by
+abbrev pub grounds : Drive → Tick → Flags → Flags → Grounds
+grounds d t standing raised =
+    record {
+      state = d .state;
+      settings = d .settings;
+      cycles = d .cycles;
+      measured = d .offsets .measured;
+      armed = d .armed;
+      retries = d .retries;
+      nth = nth d;
+      clear = t .clear;
+      speed = t .speed;
+      low = low (d .settings) t;
+      high = high (d .settings) t;
+      tripped = alight d raised;
+      blocked = alight d standing;
+    }
+
 abbrev pub chosen : Drive → Tick → Move
-chosen d t =
-    moveOf d t (low (d .settings) t) (high (d .settings) t) (alight d (raised d t)) (alight d (standing d t))
+chosen d t = moveOf (grounds d t (standing d t) (raised d t))
 
 unfoldable pub ticked : Drive → Tick → Drive
 ticked d t = moved d t (watch d t) (raised d t) (arms d t) (chosen d t)

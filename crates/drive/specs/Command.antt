@@ -4,11 +4,8 @@ use mathlib.Core.Bool.{Bool}
 use mathlib.Core.List.{List}
 use lib.Dec.{eqb, leb}
 use Rattle.numbers.specs.Choose.{pick}
-use Rattle.settings.specs.Settings.{ControlMode, CmdStart, CmdStop}
-use Rattle.drive.specs.declared.Tick.{Tick}
-
-abbrev pub mode1 : List ℕ → Bool
-mode1 s = eqb (ControlMode s) 1
+use Rattle.settings.specs.Settings.{mode1, CmdStart, CmdStop}
+use Rattle.fields.specs.declared.Tick.{Tick}
 
 abbrev pub low : List ℕ → Tick → Bool
 low s t = pick (mode1 s) (leb (t .control) (CmdStop s)) (eqb (t .command) 0)

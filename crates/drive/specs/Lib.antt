@@ -1,12 +1,8 @@
-pub mod State
 pub mod Flags
 pub mod Command
 pub mod Offsets
-pub mod Run
-pub mod Reference
 pub mod Answer
 pub mod Causes
-pub mod Moves
 pub mod Refusals
 pub mod Calls
 pub mod Sequence

@@ -1,12 +1,8 @@
 -- Document 01, "Cycle": "In OFFSETCAL the first N = 2^(13 - OffsetPsc) add their samples to two sums."; "each offset is its sum divided by N, rounded down".
-use Prim.Native.Nat.{ℕ, _+_, _-_, _/_, _%_, _^_}
+use Prim.Native.Nat.{ℕ, _+_, _/_, _%_, _^_}
 use mathlib.Core.Bool.{true, false}
 use Rattle.drive.specs.declared.offsets.Pair.{Pair}
 use Rattle.drive.specs.declared.offsets.Offsets.{Offsets}
-
--- "N = 2^(13 - OffsetPsc)"
-abbrev pub samples : ℕ → ℕ
-samples psc = 2 ^ (13 - psc)
 
 abbrev pub zero : Pair
 zero = record { first = 0; second = 0 }

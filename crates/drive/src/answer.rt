@@ -3,10 +3,8 @@ use crate::Drive;
 use crate::choose::pick_u8;
 use crate::flags::Flags;
 use crate::offsets::Pair;
-use crate::state::State;
-use crate::state::is_turning;
-use crate::state::number as number_of;
 use settings::FAULT_ENABLE;
+use states::State;
 ghost use mathlib.Core.Path.{_≡_};
 ghost use Rattle.drive.specs.Answer.{gateOf, gate, reported, answer, reply};
 
@@ -31,7 +29,7 @@ pub struct Reply {
 fn gate_of(state: State) -> u8
     ensures { λ r. ⌜ r ≡ gateOf state ⌝ }
 {
-    pick_u8(number_of(state) == 3, 1, pick_u8(is_turning(state), 2, 0))
+    pick_u8(state.number() == 3, 1, pick_u8(state.is_turning(), 2, 0))
 }
 
 fn gate(state: State, alive: Flags) -> u8
@@ -59,7 +57,7 @@ pub fn answered(drive: Drive, number: u8, place: u8) -> Answer
     Answer {
         number,
         place,
-        state: number_of(state),
+        state: state.number(),
         gate: gate(state, alive),
         live: alive.word(),
         reference: reported(run.reference),

@@ -1,20 +1,21 @@
 // Power-up, and the three calls that change the state.
-use crate::Cycle;
 use crate::Drive;
 use crate::answer::Reply;
 use crate::answer::replied;
-use crate::flags::Flags;
+use crate::flags::NONE;
 use crate::offsets::Offsets;
-use crate::offsets::samples;
-use crate::run::Run;
-use crate::state::State;
-use crate::state::number;
+use crate::offsets::UNMEASURED;
+use crate::refusals::awake;
+use fields::Cycle;
 use hall::Hall;
 use hall::Sampled;
+use motor::STILL;
 use numbers::count_up;
 use numbers::signed;
 use settings::HALL_ANGLE_OFFSET;
 use settings::OFFSET_PSC;
+use settings::samples;
+use states::State;
 ghost use mathlib.Core.Path.{_≡_};
 ghost use lib.ListN.{length};
 ghost use Rattle.numbers.specs.Choose.{pick};
@@ -27,11 +28,11 @@ fn fresh(state: State, settings: [u16; 24]) -> Drive
         state,
         settings,
         hall: Hall::power_up(),
-        flags: Flags::none(),
+        flags: NONE,
         cycles: 0,
         ticks: 0,
-        offsets: Offsets::unmeasured(),
-        run: Run::still(),
+        offsets: UNMEASURED,
+        run: STILL,
         armed: false,
         retries: 0,
     }
@@ -68,7 +69,7 @@ impl Drive {
         ensures { λ r. ⌜ r ≡ load self (now (numbers .entry)) ⌝ }
     {
         let state = self.state;
-        let n = number(state);
+        let n = state.number();
         if !((n == 0) | (n == 1)) {
             return replied(self, 4, 0);
         }
@@ -96,7 +97,7 @@ impl Drive {
     {
         let settings = self.settings;
         let state = self.state;
-        let counts = (number(state) == 2) & (self.cycles < samples(settings[OFFSET_PSC]));
+        let counts = (state.number() == 2) & (self.cycles < samples(settings[OFFSET_PSC]));
         pick_offsets(
             counts,
             self.offsets.added(cycle.first, cycle.second),
@@ -129,7 +130,8 @@ impl Drive {
     pub fn cycle(self, fields: Cycle) -> Reply
         ensures { λ r. ⌜ r ≡ cycle self fields ⌝ }
     {
-        let verdict = self.cycle_verdict(fields);
+        let state = self.state;
+        let verdict = awake(state, fields.verdict());
         if verdict.number != 0 {
             return replied(self, verdict.number, verdict.place);
         }

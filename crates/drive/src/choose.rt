@@ -8,12 +8,6 @@ pub(crate) fn pick_u8(test: bool, yes: u8, no: u8) -> u8
     if test { yes } else { no }
 }
 
-pub(crate) fn pick_u32(test: bool, yes: u32, no: u32) -> u32
-    ensures { λ r. ⌜ r ≡ pick test yes no ⌝ }
-{
-    if test { yes } else { no }
-}
-
 pub(crate) fn pick_bool(test: bool, yes: bool, no: bool) -> bool
     ensures { λ r. ⌜ r ≡ pick test yes no ⌝ }
 {

@@ -1,11 +1,11 @@
 // The command, in both modes.
-use crate::Tick;
-ghost use mathlib.Core.Path.{_≡_};
-ghost use Rattle.drive.specs.Command.{low, high};
 use crate::choose::pick_bool;
+use fields::Tick;
 use settings::CMD_START;
 use settings::CMD_STOP;
 use settings::CONTROL_MODE;
+ghost use mathlib.Core.Path.{_≡_};
+ghost use Rattle.drive.specs.Command.{low, high};
 
 pub(crate) fn low(settings: [u16; 24], tick: Tick) -> bool
     ensures { λ r. ⌜ r ≡ low settings tick ⌝ }

@@ -3,7 +3,7 @@
 ghost use mathlib.Core.Path.{_≡_};
 ghost use Prim.Native.Nat.{_≤_};
 ghost use Rattle.numbers.specs.Choose.{pick};
-ghost use Rattle.drive.specs.Flags.{none, either, live, withHall, any, word};
+ghost use Rattle.drive.specs.Flags.{either, live, withHall, any, word};
 
 pub struct Flags {
     pub kill: bool, // 0: gate kill
@@ -17,23 +17,19 @@ pub struct Flags {
     pub hall: bool, // 15: Hall pattern
 }
 
-impl Flags {
-    pub(crate) fn none() -> Self
-        ensures { λ r. ⌜ r ≡ none ⌝ }
-    {
-        Flags {
-            kill: false,
-            critical: false,
-            over: false,
-            under: false,
-            flux: false,
-            heat: false,
-            lock: false,
-            timeout: false,
-            hall: false,
-        }
-    }
+pub(crate) const NONE: Flags = Flags {
+    kill: false,
+    critical: false,
+    over: false,
+    under: false,
+    flux: false,
+    heat: false,
+    lock: false,
+    timeout: false,
+    hall: false,
+};
 
+impl Flags {
     // The flags of both.
     pub(crate) fn either(self, other: Flags) -> Flags
         ensures { λ r. ⌜ r ≡ either self other ⌝ }

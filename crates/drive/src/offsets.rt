@@ -2,7 +2,7 @@
 use std::num::wrapping_add_u32;
 ghost use mathlib.Core.Path.{_≡_};
 ghost use Prim.Native.Nat.{_<_};
-ghost use Rattle.drive.specs.Offsets.{samples, unmeasured, added, measuredBy, cleared};
+ghost use Rattle.drive.specs.Offsets.{added, measuredBy, cleared};
 
 pub struct Pair {
     pub first: u32,
@@ -16,38 +16,18 @@ pub struct Offsets {
     pub sum: Pair,
 }
 
-// The powers of two from 2^13 down to 2^1.
-const SAMPLES: [u32; 13] = [8192, 4096, 2048, 1024, 512, 256, 128, 64, 32, 16, 8, 4, 2];
+const ZERO: Pair = Pair {
+    first: 0,
+    second: 0,
+};
 
-// How many samples the offsets are measured over: N.
-pub(crate) fn samples(psc: u16) -> u32
-    ensures { λ r. ⌜ r ≡ samples psc ⌝ }
-{
-    if psc < 13 {
-        return SAMPLES[psc as usize];
-    }
-    1
-}
+pub(crate) const UNMEASURED: Offsets = Offsets {
+    measured: false,
+    value: ZERO,
+    sum: ZERO,
+};
 
 impl Offsets {
-    pub(crate) fn unmeasured() -> Self
-        ensures { λ r. ⌜ r ≡ unmeasured ⌝ }
-    {
-        let value = Pair {
-            first: 0,
-            second: 0,
-        };
-        let sum = Pair {
-            first: 0,
-            second: 0,
-        };
-        Offsets {
-            measured: false,
-            value,
-            sum,
-        }
-    }
-
     pub(crate) fn added(self, first: u16, second: u16) -> Offsets
         ensures { λ r. ⌜ r ≡ added first second self ⌝ }
     {
@@ -84,10 +64,7 @@ impl Offsets {
         ensures { λ r. ⌜ r ≡ cleared self ⌝ }
     {
         let value = self.value;
-        let sum = Pair {
-            first: 0,
-            second: 0,
-        };
+        let sum = ZERO;
         Offsets {
             measured: self.measured,
             value,

@@ -1,31 +1,30 @@
 // The tick: causes, then the command, then one move.
 use crate::Drive;
-use crate::Tick;
 use crate::answer::Reply;
 use crate::answer::replied;
 use crate::calls::pick_offsets;
+use crate::causes::causes;
 use crate::command::high;
 use crate::command::low;
 use crate::flags::Flags;
-use crate::moves::Move;
+use crate::flags::NONE;
 use crate::offsets::Offsets;
-use crate::offsets::samples;
-use crate::reference::ramped;
-use crate::reference::scaled;
-use crate::run::Run;
-use crate::run::Slots;
-use crate::run::Watched;
-use crate::state::State;
-use crate::state::number;
+use crate::refusals::awake;
+use fields::Tick;
+use motor::Run;
+use motor::STILL;
+use motor::Watched;
+use moves::Grounds;
+use moves::Move;
 use numbers::count_up;
 use settings::FAULT_ENABLE;
 use settings::OFFSET_PSC;
 use settings::RETRY_LIMIT;
+use settings::samples;
+use states::State;
 ghost use mathlib.Core.Path.{_≡_};
-ghost use mathlib.Core.Bool.{_&&_, _||_, not};
 ghost use Rattle.numbers.specs.Choose.{pick};
-ghost use Rattle.drive.specs.State.{is};
-ghost use Rattle.drive.specs.Calls.{arrive, starting, entered, ran, stayed, measured, retried, moved, ticked, tick};
+ghost use Rattle.drive.specs.Calls.{nth, grounds, arrive, entered, stayed, measured, retried, moved, arms, ticked, tick};
 
 fn pick_run(test: bool, yes: Run, no: Run) -> Run
     ensures { λ r. ⌜ r ≡ pick test yes no ⌝ }
@@ -33,49 +32,13 @@ fn pick_run(test: bool, yes: Run, no: Run) -> Run
     if test { yes } else { no }
 }
 
-// A low, where the state before the tick is not FAULT, arms.
-fn arms(armed: bool, state: State, low: bool) -> bool
-    ensures { λ r. ⌜ r ≡ (armed || low && not (is 5 state)) ⌝ }
-{
-    armed | (low & !(number(state) == 5))
-}
-
-impl Tick {
-    // What the motor starts with on entering MOTORRUN.
-    fn starting(self) -> Run
-        ensures { λ r. ⌜ r ≡ starting self ⌝ }
-    {
-        let slots = Slots {
-            ticks: 0,
-            bad: false,
-            row: 0,
-        };
-        Run {
-            slots,
-            lock: 0,
-            still: 0,
-            reference: scaled(self.speed),
-        }
-    }
-}
-
-impl Run {
-    // A tick more in MOTORRUN.
-    fn ran(self, settings: [u16; 24], tick: Tick, watched: Watched) -> Run
-        ensures { λ r. ⌜ r ≡ ran settings tick watched self ⌝ }
-    {
-        let slots = watched.slots;
-        let reference = ramped(settings, tick, self.reference);
-        Run {
-            slots,
-            lock: watched.lock,
-            still: watched.still,
-            reference,
-        }
-    }
-}
-
 impl Drive {
+    fn nth(self) -> u32
+        ensures { λ r. ⌜ r ≡ nth self ⌝ }
+    {
+        count_up(self.ticks, 65535)
+    }
+
     fn arrive(
         self,
         state: State,
@@ -106,9 +69,9 @@ impl Drive {
     fn entered(self, tick: Tick, flags: Flags, armed: bool, state: State) -> Drive
         ensures { λ r. ⌜ r ≡ entered self tick flags armed state ⌝ }
     {
-        let n = number(state);
+        let n = state.number();
         let offsets = pick_offsets(n == 2, self.offsets.cleared(), self.offsets);
-        let run = pick_run(n == 4, tick.starting(), Run::still());
+        let run = pick_run(n == 4, Run::starting(tick), STILL);
         self.arrive(
             state,
             flags,
@@ -127,9 +90,9 @@ impl Drive {
         let hall = self.hall;
         let offsets = self.offsets;
         let run = pick_run(
-            number(state) == 4,
+            state.number() == 4,
             self.run.ran(settings, tick, watched),
-            Run::still(),
+            STILL,
         );
         Drive {
             state,
@@ -154,7 +117,7 @@ impl Drive {
             State::Stop,
             flags,
             self.offsets.measured_by(n),
-            Run::still(),
+            STILL,
             armed,
             self.retries,
         )
@@ -165,14 +128,7 @@ impl Drive {
     {
         let settings = self.settings;
         let retries = count_up(self.retries, settings[RETRY_LIMIT] as u32);
-        self.arrive(
-            State::Stop,
-            Flags::none(),
-            self.offsets,
-            Run::still(),
-            true,
-            retries,
-        )
+        self.arrive(State::Stop, NONE, self.offsets, STILL, true, retries)
     }
 
     fn moved(self, tick: Tick, watched: Watched, flags: Flags, armed: bool, step: Move) -> Drive
@@ -182,17 +138,40 @@ impl Drive {
             Move::Stay => self.stayed(tick, watched, flags, armed),
             Move::Enter(state) => self.entered(tick, flags, armed, state),
             Move::Measure => self.measured(flags, armed),
-            Move::Clear => {
-                self.arrive(
-                    State::Stop,
-                    Flags::none(),
-                    self.offsets,
-                    Run::still(),
-                    armed,
-                    0,
-                )
-            }
+            Move::Clear => { self.arrive(State::Stop, NONE, self.offsets, STILL, armed, 0) }
             Move::Retry => self.retried(),
+        }
+    }
+
+    // A low, where the state before the tick is not FAULT, arms.
+    fn arms(self, tick: Tick) -> bool
+        ensures { λ r. ⌜ r ≡ arms self tick ⌝ }
+    {
+        let state = self.state;
+        let settings = self.settings;
+        self.armed | (low(settings, tick) & !(state.number() == 5))
+    }
+
+    fn grounds(self, tick: Tick, standing: Flags, raised: Flags) -> Grounds
+        ensures { λ r. ⌜ r ≡ grounds self tick standing raised ⌝ }
+    {
+        let state = self.state;
+        let settings = self.settings;
+        let mask = settings[FAULT_ENABLE];
+        Grounds {
+            state,
+            settings,
+            cycles: self.cycles,
+            measured: self.offsets.measured,
+            armed: self.armed,
+            retries: self.retries,
+            nth: self.nth(),
+            clear: tick.clear,
+            speed: tick.speed,
+            low: low(settings, tick),
+            high: high(settings, tick),
+            tripped: raised.alight(mask),
+            blocked: standing.alight(mask),
         }
     }
 
@@ -202,22 +181,17 @@ impl Drive {
         let state = self.state;
         let settings = self.settings;
         let watched = self.run.watched(settings, tick, self.hall.still);
-        let standing = self.causes(tick, watched);
+        let standing = causes(settings, state.number() == 4, self.hall.dead, tick, watched);
         let raised = self.flags.either(standing);
-        let is_low = low(settings, tick);
-        let is_high = high(settings, tick);
-        let mask = settings[FAULT_ENABLE];
-        let tripped = raised.alight(mask);
-        let blocked = standing.alight(mask);
-        let step = self.move_of(tick, is_low, is_high, tripped, blocked);
-        let armed = arms(self.armed, state, is_low);
-        self.moved(tick, watched, raised, armed, step)
+        let step = self.grounds(tick, standing, raised).move_of();
+        self.moved(tick, watched, raised, self.arms(tick), step)
     }
 
     pub fn tick(self, fields: Tick) -> Reply
         ensures { λ r. ⌜ r ≡ tick self fields ⌝ }
     {
-        let verdict = self.tick_verdict(fields);
+        let state = self.state;
+        let verdict = awake(state, fields.verdict());
         if verdict.number != 0 {
             return replied(self, verdict.number, verdict.place);
         }

@@ -2,3 +2,4 @@
 pub mod Table
 pub mod Sums
 pub mod Order
+pub mod Choices

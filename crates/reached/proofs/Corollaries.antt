@@ -10,18 +10,18 @@ use lib.Signed.{quotZ}
 use mir.Facts.{T-not, not-T, leb-yes, ltb-yes, eqb-yes}
 use Rattle.numbers.specs.Limit.{limit}
 use Rattle.numbers.specs.Choose.{pick}
-use Rattle.drive.specs.State.{numberOf, is, turning}
-use Rattle.settings.specs.Settings.{OffsetPsc, CmdStart, CmdStop}
+use Rattle.states.specs.States.{numberOf, is, turning}
+use Rattle.settings.specs.Settings.{OffsetPsc, CmdStart, CmdStop, mode1, samples}
 use Rattle.drive.specs.Flags.{none, any}
-use Rattle.drive.specs.Command.{mode1, low, high}
-use Rattle.drive.specs.Offsets.{samples, added}
+use Rattle.drive.specs.Command.{low, high}
+use Rattle.drive.specs.Offsets.{added}
 use Rattle.drive.specs.Answer.{alive, gate, reported}
 use Rattle.drive.specs.declared.Drive.{Drive}
-use Rattle.drive.specs.declared.Tick.{Tick}
-use Rattle.drive.specs.declared.state.State.{State}
+use Rattle.fields.specs.declared.Tick.{Tick}
+use Rattle.states.specs.declared.State.{State}
 use Rattle.drive.specs.declared.flags.Flags.{Flags}
 use Rattle.reached.specs.Reached.{RunWithin, AtMost, butHall, Reached}
-use Rattle.reached.proofs.Choices.{by-test, decide}
+use Rattle.numbers.proofs.Choices.{by-test, decide}
 use Rattle.reached.proofs.Verdicts.{at-most, related-there}
 use Rattle.reached.proofs.Run.{still-within}
 use Rattle.reached.proofs.Offsets.{samples-small, added-exactly}

@@ -19,7 +19,7 @@ use Rattle.hall.specs.declared.fate.Fate.the-variants.{Dead, First, Same, Forwa
 use Rattle.hall.specs.declared.fate.Kept.{Kept}
 use Rattle.hall.specs.declared.fate.Kept.the-variants.{Nothing}
 use Rattle.reached.specs.Reached.{Known, HallWithin}
-use Rattle.reached.proofs.Choices.{by-test}
+use Rattle.numbers.proofs.Choices.{by-test}
 
 pub hall-power-up : HallWithin poweredUp
 hall-power-up =

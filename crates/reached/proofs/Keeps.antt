@@ -8,16 +8,16 @@ use lib.Dec.{T}
 use mir.Facts.{T-not, ltb-no}
 use mir.Syntax.{w16}
 use mir.Val.{toZ}
-use Rattle.drive.specs.State.{is}
+use Rattle.states.specs.States.{is}
 use Rattle.settings.specs.Settings.{FaultEnable, HallAngleOffset}
 use Rattle.verdicts.specs.Table.{verdict}
 use Rattle.drive.specs.Refusals.{loadRows, cycleRows, tickRows}
 use Rattle.drive.specs.Calls as Drives
 use Rattle.drive.specs.Calls.{powerUp, fresh, sample, cycled, ticked}
 use Rattle.drive.specs.declared.Drive.{Drive}
-use Rattle.drive.specs.declared.Cycle.{Cycle}
-use Rattle.drive.specs.declared.Tick.{Tick}
-use Rattle.drive.specs.declared.state.State.the-variants.{Stop}
+use Rattle.fields.specs.declared.Cycle.{Cycle}
+use Rattle.fields.specs.declared.Tick.{Tick}
+use Rattle.states.specs.declared.State.the-variants.{Stop}
 use Rattle.reached.specs.Reached.{Loaded, Reached}
 use Rattle.drive.specs.Sequence.{Call, loads, cycles, ticks, reply}
 use Rattle.reached.specs.Calls.{reaches}

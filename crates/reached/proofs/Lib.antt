@@ -1,11 +1,9 @@
 -- What other crates cite.
-pub mod Choices
 pub mod Verdicts
 pub mod Hall
 pub mod Run
 pub mod Offsets
 pub mod States
-pub mod Moves
 pub mod Flags
 pub mod Ticks
 pub mod Keeps

@@ -8,15 +8,15 @@ use lib.Dec.{T, ltb}
 use lib.Pow.{pow-mono}
 use mir.Facts.{and-yes, ltb-yes}
 use Rattle.numbers.specs.Count.{up}
-use Rattle.drive.specs.State.{is}
-use Rattle.settings.specs.Settings.{OffsetPsc}
-use Rattle.drive.specs.Offsets.{samples, unmeasured, added, measuredBy, cleared}
+use Rattle.states.specs.States.{is}
+use Rattle.settings.specs.Settings.{OffsetPsc, samples}
+use Rattle.drive.specs.Offsets.{unmeasured, added, measuredBy, cleared}
 use Rattle.drive.specs.Calls.{summed}
 use Rattle.drive.specs.declared.Drive.{Drive}
-use Rattle.drive.specs.declared.Cycle.{Cycle}
+use Rattle.fields.specs.declared.Cycle.{Cycle}
 use Rattle.drive.specs.declared.offsets.Offsets.{Offsets}
 use Rattle.reached.specs.Reached.{AtMost, OffsetsWithin, Reached}
-use Rattle.reached.proofs.Choices.{by-test}
+use Rattle.numbers.proofs.Choices.{by-test}
 
 -- "In OFFSETCAL the first N": the samples of this cycle are summed
 abbrev sums : Drive → Bool

@@ -11,16 +11,14 @@ use lib.Signed.{leZ, ltZ}
 use mir.Facts.{eqb-no}
 use Rattle.numbers.specs.Count.{up}
 use Rattle.numbers.proofs.Order.{below-is-at-most, goes-up, goes-down}
-use Rattle.settings.specs.Settings.{FluxFaultTime, MinSpd, SpdRampRate, CmdStart, CmdGain}
-use Rattle.drive.specs.Command.{mode1}
-use Rattle.drive.specs.Run.{still, slotLength, badFlux, locked, ends, nextSlots, lasting, watched}
-use Rattle.drive.specs.Reference.{times2048, target0, target1, targetOf, toward}
-use Rattle.drive.specs.Calls.{starting, ran}
-use Rattle.drive.specs.declared.Tick.{Tick}
-use Rattle.drive.specs.declared.run.Run.{Run}
-use Rattle.drive.specs.declared.run.Slots.{Slots}
+use Rattle.settings.specs.Settings.{FluxFaultTime, MinSpd, SpdRampRate, CmdStart, CmdGain, mode1}
+use Rattle.motor.specs.Counts.{still, slotLength, badFlux, locked, ends, nextSlots, lasting, watched}
+use Rattle.motor.specs.Reference.{times2048, target0, target1, targetOf, toward, starting, ran}
+use Rattle.fields.specs.declared.Tick.{Tick}
+use Rattle.motor.specs.declared.Run.{Run}
+use Rattle.motor.specs.declared.Slots.{Slots}
 use Rattle.reached.specs.Reached.{Loaded, RunWithin}
-use Rattle.reached.proofs.Choices.{by-test}
+use Rattle.numbers.proofs.Choices.{by-test}
 use Rattle.reached.proofs.Verdicts.{at-least, at-most}
 
 -- ---- the reference

@@ -1,9 +1,9 @@
 -- The ten states in groups: by cases, as each test computes at each state.
 use mathlib.Core.Bool.{_||_, not}
 use lib.Dec.{T}
-use Rattle.drive.specs.State.{is, turning}
-use Rattle.drive.specs.declared.state.State.{State}
-use Rattle.drive.specs.declared.state.State.the-variants.{Idle, Stop, OffsetCal, BtsCharge, MotorRun, Fault, CatchSpin, Parking, OpenLoop, AngleSensing}
+use Rattle.states.specs.States.{is, turning}
+use Rattle.states.specs.declared.State.{State}
+use Rattle.states.specs.declared.State.the-variants.{Idle, Stop, OffsetCal, BtsCharge, MotorRun, Fault, CatchSpin, Parking, OpenLoop, AngleSensing}
 
 -- the six starting and running states are none of the others
 pub record Turns (s : State) : Type 0 where

@@ -1,5 +1,5 @@
 -- A tick keeps what holds of reached states, whichever way its move comes about.
-use mathlib.Core.Path.{_≡_, refl}
+use mathlib.Core.Path.{_≡_, refl, sym, subst}
 use mathlib.Core.Bool.{Bool, true, false, _&&_, _||_, not}
 use mathlib.Core.Logic.{_⊎_, inl, inr}
 use Prim.Native.Nat.{ℕ, _≤_}
@@ -8,29 +8,28 @@ use lib.Dec.{T}
 use lib.IntN.{natAbs}
 use mir.Facts.{T-not, not-T, and-yes, or-yes}
 use Rattle.numbers.specs.Count.{up}
-use Rattle.drive.specs.State.{is, turning}
-use Rattle.settings.specs.Settings.{FaultEnable, OffsetPsc, RetryLimit}
+use Rattle.states.specs.States.{is, turning}
+use Rattle.settings.specs.Settings.{FaultEnable, OffsetPsc, RetryLimit, samples}
 use Rattle.drive.specs.Flags.{none}
-use Rattle.drive.specs.Command.{low, high}
-use Rattle.drive.specs.Offsets.{samples, measuredBy}
-use Rattle.drive.specs.Run.{still}
-use Rattle.drive.specs.Causes.{watch}
-use Rattle.drive.specs.Calls.{arrive, entered, stayed, moved, arms, standing, raised, alight, ticked}
+use Rattle.drive.specs.Command.{low}
+use Rattle.drive.specs.Offsets.{measuredBy}
+use Rattle.motor.specs.Counts.{still}
+use Rattle.drive.specs.Calls.{watch, grounds, arrive, entered, stayed, moved, arms, standing, raised, alight, ticked}
 use Rattle.drive.specs.declared.Drive.{Drive}
-use Rattle.drive.specs.declared.Tick.{Tick}
-use Rattle.drive.specs.declared.state.State.{State}
-use Rattle.drive.specs.declared.state.State.the-variants.{Stop, OffsetCal, BtsCharge, Fault}
+use Rattle.fields.specs.declared.Tick.{Tick}
+use Rattle.states.specs.declared.State.{State}
+use Rattle.states.specs.declared.State.the-variants.{Stop, OffsetCal, BtsCharge, Fault}
 use Rattle.drive.specs.declared.flags.Flags.{Flags}
 use Rattle.drive.specs.declared.offsets.Offsets.{Offsets}
-use Rattle.drive.specs.declared.run.Run.{Run}
-use Rattle.drive.specs.declared.moves.Move.{Move}
+use Rattle.motor.specs.declared.Run.{Run}
+use Rattle.moves.specs.declared.Move.{Move}
 use Rattle.reached.specs.Reached.{RunWithin, OffsetsWithin, butHall, Reached}
-use Rattle.reached.proofs.Choices.{by-test}
+use Rattle.numbers.proofs.Choices.{by-test}
 use Rattle.reached.proofs.Run.{starting-within, ran-within}
 use Rattle.reached.proofs.Offsets.{cleared-within, measured-within}
 use Rattle.reached.proofs.Flags.{calm-but-hall, stays-with-causes}
 use Rattle.reached.proofs.States.{turns, waiting}
-use Rattle.reached.proofs.Moves.{Way, trips, stops, stays, goes-on, calibrates, starts, measures, clears, tries-again, way-of}
+use Rattle.moves.proofs.Ways.{Way, trips, stops, stays, goes-on, calibrates, starts, measures, clears, tries-again, way-of}
 
 module _ (d : Drive) (r : Reached d) (t : Tick) (outside : T (not (is 0 (d .state)))) where
   -- a tick that goes to STOP
@@ -187,36 +186,39 @@ module _ (d : Drive) (r : Reached d) (t : Tick) (outside : T (not (is 0 (d .stat
       }
 
   moved-reached :
-      {high blocked : Bool} {m : Move}
+      {s : State} {m : Move}
+      → s ≡ d .state
       → natAbs (t .speed) ≤ 32767
       → natAbs (t .target) ≤ 32767
-      → Way d t (low (d .settings) t) high (alight d (raised d t)) blocked (d .state) m
+      → Way (grounds d t (standing d t) (raised d t)) s m
       → Reached (moved d t (watch d t) (raised d t) (arms d t) m)
-  moved-reached speed target (trips u alive) = faulted alive
-  moved-reached speed target (stops u held calm) =
+  moved-reached at speed target (trips u alive) = faulted alive
+  moved-reached at speed target (stops u held calm) =
       stopped (raised d t) (d .offsets) (arms d t && true) (d .retries)
       (calm-but-hall (FaultEnable (d .settings)) (raised d t) calm)
       (r .offsets)
       (r .retries)
-  moved-reached speed target (goes-on {next} u onward quiet calm) =
-      turned next (and-yes (turning next) (not (is 3 next)) onward .0) speed (r .measured u)
-      (λ w. unarmed u quiet (and-yes (arms d t) (not (is 3 next || is 5 next)) w .0))
+  moved-reached at speed target (goes-on {next = next} u onward quiet calm) =
+      let runs = subst (λ (s : State). T (turning s)) at u in
+      turned next (and-yes (turning next) (not (is 3 next)) onward .0) speed (r .measured runs)
+      (λ w. unarmed runs quiet (and-yes (arms d t) (not (is 3 next || is 5 next)) w .0))
       calm
-  moved-reached speed target (calibrates u unmeasured calm) = calibrating unmeasured calm
-  moved-reached speed target (starts u measured armed held calm) =
+  moved-reached at speed target (calibrates unmeasured calm) = calibrating unmeasured calm
+  moved-reached at speed target (starts measured armed held calm) =
       turned BtsCharge tt speed measured (λ w. and-yes (arms d t) false w .1) calm
-  moved-reached speed target (measures u done calm) =
+  moved-reached at speed target (measures done calm) =
       stopped (raised d t) (measuredBy (samples (OffsetPsc (d .settings))) (d .offsets)) (arms d t) (d .retries)
       (calm-but-hall (FaultEnable (d .settings)) (raised d t) calm)
       (measured-within (samples (OffsetPsc (d .settings))) (d .offsets) (r .offsets))
       (r .retries)
-  moved-reached speed target (clears u free clear) = stopped none (d .offsets) (arms d t) 0 tt (r .offsets) (omega arith)
-  moved-reached speed target (tries-again u free mode late few) =
+  moved-reached at speed target (clears free clear) = stopped none (d .offsets) (arms d t) 0 tt (r .offsets) (omega arith)
+  moved-reached at speed target (tries-again free held mode late few) =
       stopped none (d .offsets) true (up (RetryLimit (d .settings)) (d .retries)) tt (r .offsets) (omega arith)
-  moved-reached speed target (stays quiet calm) = stayed-reached target quiet calm
+  moved-reached at speed target (stays quiet calm) =
+      stayed-reached target
+      (λ u. quiet (subst (λ (s : State). T (turning s)) (sym at) u))
+      (λ u. calm (subst (λ (s : State). T (not (is 5 s))) (sym at) u))
 
   pub ticked-reached : natAbs (t .speed) ≤ 32767 → natAbs (t .target) ≤ 32767 → Reached (ticked d t)
   unfolding ticked
-  ticked-reached speed target =
-      moved-reached speed target
-      (way-of d t (low (d .settings) t) (high (d .settings) t) (alight d (raised d t)) (alight d (standing d t)))
+  ticked-reached speed target = moved-reached refl speed target (way-of (grounds d t (standing d t) (raised d t)))

@@ -18,7 +18,7 @@ use Rattle.drive.specs.declared.Drive.{Drive}
 use Rattle.verdicts.specs.declared.Verdict.{Verdict}
 use Rattle.drive.specs.declared.answer.Reply.{Reply}
 use Rattle.reached.specs.Reached.{Loaded}
-use Rattle.reached.proofs.Choices.{by-test}
+use Rattle.numbers.proofs.Choices.{by-test}
 
 pub settled :
     (P : Drive → Type 0) (v : Verdict) (next d : Drive)

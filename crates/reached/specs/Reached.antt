@@ -12,17 +12,17 @@ use Rattle.hall.specs.Fate.{clockwise, among}
 use Rattle.hall.specs.declared.Hall.{Hall}
 use Rattle.hall.specs.declared.fate.Kept.{Kept}
 use Rattle.hall.specs.declared.fate.Kept.the-variants.{Nothing, Pattern}
-use Rattle.drive.specs.State.{is, turning}
-use Rattle.settings.specs.Settings.{FluxFaultTime, RotorLockTime, HallTimeoutPeriod, OffsetPsc, RetryLimit}
-use Rattle.drive.specs.Offsets.{samples, zero}
-use Rattle.drive.specs.Run as Runs
+use Rattle.states.specs.States.{is, turning}
+use Rattle.settings.specs.Settings.{FluxFaultTime, RotorLockTime, HallTimeoutPeriod, OffsetPsc, RetryLimit, samples}
+use Rattle.drive.specs.Offsets.{zero}
+use Rattle.motor.specs.Counts as Runs
 use Rattle.settings.specs.Rules.{rule}
 use Rattle.drive.specs.Calls.{powerUp, alight}
 use Rattle.drive.specs.declared.Drive.{Drive}
 use Rattle.drive.specs.declared.flags.Flags.{Flags}
 use Rattle.drive.specs.declared.offsets.Pair.{Pair}
 use Rattle.drive.specs.declared.offsets.Offsets.{Offsets}
-use Rattle.drive.specs.declared.run.Run.{Run}
+use Rattle.motor.specs.declared.Run.{Run}
 
 -- settings that a load has accepted
 pub record Loaded (settings : List ℕ) : Type 0 where

@@ -9,7 +9,7 @@ use lib.ListN.{length}
 use borrow.Author.Tests.{ltb-false}
 use Rattle.numbers.specs.Choose.{pick}
 use Rattle.drive.specs.Sequence.{Call as Record, loads as load, cycles as cycle, ticks as tick}
-use Rattle.records.specs.Fields.{byte, settingsOf, cycleOf, tickOf}
+use Rattle.records.specs.Decoded.{byte, settingsOf, cycleOf, tickOf}
 use Rattle.records.specs.Front.{sizeOf, Front, end, unknown, short, whole, held, front, told}
 use Rattle.records.specs.declared.Found.{Found}
 use Rattle.records.specs.declared.Found.the-variants.{End, Unknown, Short, Load as LoadAt, Cycle as CycleAt, Tick as TickAt}

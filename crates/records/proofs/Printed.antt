@@ -8,7 +8,7 @@ use Prim.Native.Nat.{ℕ, _≤_}
 use native.Mathlib.Omega.{arith}
 use lib.Dec.{T, eqb, leb, leb→le}
 use Rattle.numbers.specs.Choose.{pick}
-use Rattle.drive.specs.State.{numberOf, is, turning}
+use Rattle.states.specs.States.{numberOf, is, turning}
 use Rattle.drive.specs.Flags.{any}
 use Rattle.drive.specs.Answer.{gate, alive, answer, reply}
 use Rattle.verdicts.specs.Table.{Row, told, verdict}
@@ -16,8 +16,8 @@ use Rattle.settings.specs.Rules.{settingRows}
 use Rattle.drive.specs.Refusals.{loadRows, cycleRows, tickRows}
 use Rattle.drive.specs.Calls.{settle, load, cycle, cycled, tick, ticked}
 use Rattle.drive.specs.declared.Drive.{Drive}
-use Rattle.drive.specs.declared.state.State.{State}
-use Rattle.drive.specs.declared.state.State.the-variants.{Idle, Stop, OffsetCal, BtsCharge, MotorRun, Fault, CatchSpin, Parking, OpenLoop, AngleSensing}
+use Rattle.states.specs.declared.State.{State}
+use Rattle.states.specs.declared.State.the-variants.{Idle, Stop, OffsetCal, BtsCharge, MotorRun, Fault, CatchSpin, Parking, OpenLoop, AngleSensing}
 use Rattle.drive.specs.declared.flags.Flags.{Flags}
 use Rattle.verdicts.specs.declared.Verdict.{Verdict}
 use Rattle.report.specs.Refusals.{lineLength, accepts}

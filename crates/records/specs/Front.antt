@@ -6,7 +6,7 @@ use lib.Dec.{eqb, ltb}
 use lib.ListN.{length}
 use Rattle.numbers.specs.Choose.{pick}
 use Rattle.drive.specs.Sequence.{Call, loads, cycles, ticks}
-use Rattle.records.specs.Fields.{byte, settingsOf, cycleOf, tickOf}
+use Rattle.records.specs.Decoded.{byte, settingsOf, cycleOf, tickOf}
 use Rattle.records.specs.declared.Found.{Found}
 use Rattle.records.specs.declared.Found.the-variants.{End, Unknown, Short, Load as LoadAt, Cycle as CycleAt, Tick as TickAt}
 

@@ -1,9 +1,9 @@
 // One record: the call that it asks for, and the line of its reply.
 use crate::Found;
 use crate::Ran;
-use crate::fields::cycle_of;
-use crate::fields::settings_of;
-use crate::fields::tick_of;
+use crate::decoded::cycle_of;
+use crate::decoded::settings_of;
+use crate::decoded::tick_of;
 use crate::read;
 use drive::Drive;
 use drive::answer::Reply;
@@ -16,7 +16,7 @@ ghost use lib.ListN.{length, drop};
 ghost use Rattle.drive.specs.Calls.{load, cycle, tick};
 ghost use Rattle.report.specs.Refusals.{lineLength};
 ghost use Rattle.report.specs.Line.{written as lineWritten};
-ghost use Rattle.records.specs.Fields.{settingsOf, cycleOf, tickOf};
+ghost use Rattle.records.specs.Decoded.{settingsOf, cycleOf, tickOf};
 ghost use Rattle.records.specs.Run.{rest, refused, runs, told, written};
 
 // How many bytes a line has.

@@ -1,6 +1,6 @@
 // The records of the program: what the bytes of its input ask for, and the run over a buffer of them.
 mod answers;
-mod fields;
+mod decoded;
 
 use answers::step;
 use drive::Drive;

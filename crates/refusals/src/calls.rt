@@ -1,10 +1,10 @@
 // A call with the numbers of a row. A call is told by a number: up to 30 it is the load of so many numbers.
 use crate::lines::end;
 use crate::tables::GOOD;
-use drive::Cycle;
 use drive::Drive;
-use drive::Tick;
 use drive::answer::Reply;
+use fields::Cycle;
+use fields::Tick;
 use numbers::signed;
 ghost use Prim.Native.Nat.{_<_};
 

@@ -1,6 +1,8 @@
 -- Document 01, "Settings, in order".
-use Prim.Native.Nat.{ℕ, _-_}
+use Prim.Native.Nat.{ℕ, _-_, _^_}
+use mathlib.Core.Bool.{Bool}
 use mathlib.Core.List.{List}
+use lib.Dec.{eqb}
 use lib.ListN.{getD}
 
 -- the settings are counted from 1
@@ -78,3 +80,11 @@ CmdGain = setting 23
 
 abbrev pub RetryLimit : List ℕ → ℕ
 RetryLimit = setting 24
+
+-- ControlMode 1: "Mode 1"
+abbrev pub mode1 : List ℕ → Bool
+mode1 s = eqb (ControlMode s) 1
+
+-- how many samples the offsets are measured over: "N = 2^(13 - OffsetPsc)"
+abbrev pub samples : ℕ → ℕ
+samples psc = 2 ^ (13 - psc)

@@ -4,6 +4,7 @@ use verdicts::accepted;
 ghost use mathlib.Core.Path.{_≡_};
 ghost use Prim.Native.Nat.{_<_};
 ghost use Rattle.verdicts.specs.Table.{verdict};
+ghost use Rattle.settings.specs.Settings.{samples};
 ghost use Rattle.settings.specs.Rules.{related, rule, settingRows};
 
 // Where each setting stands in the array, in the order of the paper, from 0.
@@ -144,4 +145,17 @@ pub fn verdict(settings: [u16; 24]) -> Verdict
         i += 1;
     }
     accepted()
+}
+
+// The powers of two from 2^13 down to 2^1.
+const SAMPLES: [u32; 13] = [8192, 4096, 2048, 1024, 512, 256, 128, 64, 32, 16, 8, 4, 2];
+
+// How many samples the offsets are measured over by this OffsetPsc: N.
+pub fn samples(psc: u16) -> u32
+    ensures { λ r. ⌜ r ≡ samples psc ⌝ }
+{
+    if psc < 13 {
+        return SAMPLES[psc as usize];
+    }
+    1
 }

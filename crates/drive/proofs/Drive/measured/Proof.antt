@@ -13,9 +13,8 @@ returns : tie.Need-returns
 returns c =
     rw (
       c .arrive .ensures,
-      c .before .still .ensures,
-      c .before .before .measured-by .ensures,
-      c .before .before .before .samples .ensures,
+      c .before .measured-by .ensures,
+      c .before .before .samples .ensures,
     )
 
 pub measured-spec : {M : Type 1} → statement M
@@ -25,6 +24,5 @@ measured-spec =
     (λ c. search needs)
     (λ c κs. search needs)
     measured-by-requires
-    (λ c κs. search needs)
     (λ c κs. search needs)
     returns)

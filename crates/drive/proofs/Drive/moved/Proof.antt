@@ -27,10 +27,8 @@ returns-3 c =
 returns-4 : tie.Need-returns-4
 returns-4 c =
     rw (
-      c .before .before .before .enum-told3 .given .1,
+      c .before .enum-told3 .given .1,
       c .arrive .ensures,
-      c .before .still .ensures,
-      c .before .before .none .ensures,
     )
 
 returns-5 : tie.Need-returns-5
@@ -51,8 +49,6 @@ moved-spec =
     (λ c. search needs)
     (λ c κs. search needs)
     (λ c. search needs)
-    (λ c κs. search needs)
-    (λ c κs. search needs)
     (λ c κs. search needs)
     (λ c. search needs)
     (λ c κs. search needs)

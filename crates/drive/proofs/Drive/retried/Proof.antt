@@ -7,9 +7,7 @@ returns : tie.Need-returns
 returns c =
     rw (
       c .arrive .ensures,
-      c .before .still .ensures,
-      c .before .before .none .ensures,
-      c .before .before .before .count-up .ensures,
+      c .before .count-up .ensures,
     )
 
 pub retried-spec : {M : Type 1} → statement M
@@ -18,8 +16,6 @@ retried-spec =
     (tie.spec
     (λ c. search needs)
     (λ c. search needs)
-    (λ c κs. search needs)
-    (λ c κs. search needs)
     (λ c κs. search needs)
     (λ c κs. search needs)
     returns)

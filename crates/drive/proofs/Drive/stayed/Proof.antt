@@ -8,16 +8,14 @@ returns c =
     rw (
       c .nth .ensures,
       c .before .pick-run .ensures,
-      c .before .before .still .ensures,
-      c .before .before .before .ran .ensures,
-      c .before .before .before .before .number .ensures,
+      c .before .before .ran .ensures,
+      c .before .before .before .number .ensures,
     )
 
 pub stayed-spec : {M : Type 1} → statement M
 stayed-spec =
     tie.close
     (tie.spec
-    (λ c κs. search needs)
     (λ c κs. search needs)
     (λ c κs. search needs)
     (λ c κs. search needs)

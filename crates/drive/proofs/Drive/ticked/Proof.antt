@@ -1,4 +1,4 @@
--- `ticked` calls the definitions' functions in their order: causes, flags, command, move, next state.
+-- `ticked` calls the definitions' functions in their order: causes, flags, move, command, next state.
 use borrow.Author.Needs.{needs}
 use Rattle.drive.specs.Calls.{ticked}
 use Rattle.drive.proofs.Drive.ticked.Statement.{statement}
@@ -11,13 +11,11 @@ returns c =
       c .moved .ensures,
       c .before .arms .ensures,
       c .before .before .move-of .ensures,
-      c .before .before .before .alight2 .ensures,
-      c .before .before .before .before .alight .ensures,
-      c .before .before .before .before .before .high .ensures,
-      c .before .before .before .before .before .before .low .ensures,
-      c .before .before .before .before .before .before .before .either .ensures,
-      c .before .before .before .before .before .before .before .before .causes .ensures,
-      c .before .before .before .before .before .before .before .before .before .watched .ensures,
+      c .before .before .before .grounds .ensures,
+      c .before .before .before .before .either .ensures,
+      c .before .before .before .before .before .causes .ensures,
+      c .before .before .before .before .before .before .number .ensures,
+      c .before .before .before .before .before .before .before .watched .ensures,
     )
 
 pub ticked-spec : {M : Type 1} → statement M
@@ -27,9 +25,6 @@ ticked-spec =
     (λ c κs. search needs)
     (λ c κs. search needs)
     (λ c κs. search needs)
-    (λ c κs. search needs)
-    (λ c κs. search needs)
-    (λ c. search needs)
     (λ c κs. search needs)
     (λ c κs. search needs)
     (λ c κs. search needs)

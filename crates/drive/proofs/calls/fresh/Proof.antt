@@ -5,19 +5,12 @@ use Rattle.drive.proofs.calls.fresh.Tie as tie
 
 returns : tie.Need-returns
 returns c =
-    rw (
-      c .still .ensures,
-      c .before .unmeasured .ensures,
-      c .before .before .none .ensures,
-      c .before .before .before .power-up .ensures,
-    )
+    rw
+    (c .power-up .ensures)
 
 pub fresh-spec : {M : Type 1} → statement M
 fresh-spec =
     tie.close
     (tie.spec
-    (λ c κs. search needs)
-    (λ c κs. search needs)
-    (λ c κs. search needs)
     (λ c κs. search needs)
     returns)

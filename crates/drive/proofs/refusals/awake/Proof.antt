@@ -1,0 +1,19 @@
+-- `awake` puts the row of IDLE before what the fields say.
+use borrow.Author.Needs.{needs}
+use Rattle.drive.proofs.refusals.awake.Statement.{statement}
+use Rattle.drive.proofs.refusals.awake.Tie as tie
+
+returns : tie.Need-returns
+returns c =
+    rw (
+      c .first .ensures,
+      c .before .number .ensures,
+    )
+
+pub awake-spec : {M : Type 1} → statement M
+awake-spec =
+    tie.close
+    (tie.spec
+    (λ c κs. search needs)
+    (λ c κs. search needs)
+    returns)

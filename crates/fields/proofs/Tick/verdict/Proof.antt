@@ -1,0 +1,34 @@
+-- `verdict` puts each field's row before the later ones, from the last to the first: the first that holds is left.
+use borrow.Author.Needs.{needs}
+use Rattle.fields.proofs.Tick.verdict.Statement.{statement}
+use Rattle.fields.proofs.Tick.verdict.Tie as tie
+
+returns : tie.Need-returns
+returns c =
+    rw (
+      c .first8 .ensures,
+      c .before .before .first7 .ensures,
+      c .before .before .before .before .first6 .ensures,
+      c .before .before .before .before .before .before .first5 .ensures,
+      c .before .before .before .before .before .before .before .before .first4 .ensures,
+      c .before .before .before .before .before .before .before .before .before .before .first3 .ensures,
+      c .before .before .before .before .before .before .before .before .before .before .before .before .first2 .ensures,
+      c .before .before .before .before .before .before .before .before .before .before .before .before .before .before .first .ensures,
+      c .before .before .before .before .before .before .before .before .before .before .before .before .before .before .before .signed-verdict .ensures,
+    )
+
+pub verdict-spec : {M : Type 1} → statement M
+verdict-spec =
+    tie.close
+    (tie.spec
+    (λ c. search needs)
+    (λ c κs. search needs)
+    (λ c κs. search needs)
+    (λ c κs. search needs)
+    (λ c κs. search needs)
+    (λ c κs. search needs)
+    (λ c κs. search needs)
+    (λ c κs. search needs)
+    (λ c κs. search needs)
+    (λ c κs. search needs)
+    returns)

@@ -1,0 +1,33 @@
+-- Document 01, "Cycle" and "Tick": the fields and their ranges. "1: cycle or tick field out of range, first bad field, from 1."
+use mathlib.Core.List.{List, [], _∷_}
+use lib.Dec.{ltb}
+use lib.IntN.{natAbs}
+use Rattle.verdicts.specs.Table.{Row, row}
+use Rattle.fields.specs.declared.Cycle.{Cycle}
+use Rattle.fields.specs.declared.Tick.{Tick}
+
+-- "Fields: Hall pattern 0..7, two current samples 0..4095."
+abbrev pub cycleFields : Cycle → List Row
+cycleFields c = row 1 1 (ltb 7 (c .pattern)) ∷ row 1 2 (ltb 4095 (c .first)) ∷ row 1 3 (ltb 4095 (c .second)) ∷ []
+
+-- "TrqRef (-4095..4095); speed, target (-32767..32767)."
+abbrev pub signedFields : Tick → List Row
+signedFields t =
+    row 1 9 (ltb 4095 (natAbs (t .torque)))
+    ∷ row 1 10 (ltb 32767 (natAbs (t .speed)))
+    ∷ row 1 11 (ltb 32767 (natAbs (t .target)))
+    ∷ []
+
+-- "Fields: gate kill, clear, command (0..1 each); control, VdcRaw, VdcFilt, temperature number (0..4095, rising with heat);
+-- Flx_M (0..65535);" and these
+abbrev pub tickFields : Tick → List Row
+tickFields t =
+    row 1 1 (ltb 1 (t .kill))
+    ∷ row 1 2 (ltb 1 (t .clear))
+    ∷ row 1 3 (ltb 1 (t .command))
+    ∷ row 1 4 (ltb 4095 (t .control))
+    ∷ row 1 5 (ltb 4095 (t .raw))
+    ∷ row 1 6 (ltb 4095 (t .filtered))
+    ∷ row 1 7 (ltb 4095 (t .temperature))
+    ∷ row 1 8 (ltb 65535 (t .flux))
+    ∷ signedFields t

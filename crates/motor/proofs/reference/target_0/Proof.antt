@@ -1,0 +1,85 @@
+-- `target_0` follows the definition test by test; the opposite of a 16-bit number fits 32 bits.
+use mathlib.Core.Path.{_≡_}
+use Prim.Native.Nat.{ℕ, _<_}
+use native.Mathlib.Omega.{arith}
+use native.Mathlib.Nat.{le-suc}
+use lib.IntN.{pos, negℤ, natAbs, _-ℤ_, +ℤ-idl}
+use mir.Syntax.{w32}
+use mir.Val.{SFits, toZ}
+use mir.Facts.{toZ-ofZ, sfits-widen}
+use borrow.Author.Needs.{needs}
+use borrow.Author.Tests.{le-ltb, lt-ltb}
+use Rattle.numbers.proofs.Sums.{mag-opposite, natural}
+use Rattle.motor.specs.Reference.{target0}
+use Rattle.motor.proofs.reference.target_0.Statement.{statement}
+use Rattle.motor.proofs.reference.target_0.Tie as tie
+
+-- the opposite of a 16-bit number fits
+opposite : (n : ℕ) → n < 65536 → pos 0 -ℤ toZ w32 n ≡ negℤ (pos n)
+opposite n small = rw (natural w32 n (omega arith), +ℤ-idl)
+
+opposite-fits : (n : ℕ) → n < 65536 → SFits w32 (negℤ (pos n))
+opposite-fits n small = record { sfits = omega (arith, mag-opposite n (le-suc n)) }
+
+-- what was tested
+absolute-is : (c : tie.After-absolute) → c .absolute .result ≡ natAbs (c .before .args .target)
+absolute-is c = rw (toZ-ofZ (c .before .fits .target)) at (c .absolute .ensures)
+
+sub-result : tie.Need-sub-result
+sub-result c =
+    let small = c .before .before .before .fits .minimum .fits in
+    rw (opposite _ small) (opposite-fits _ small)
+
+returns : tie.Need-returns
+unfolding target0
+returns c =
+    let start = c .before .before .before in
+    let small = start .fits .minimum .fits in (
+      rw (
+        ← absolute-is (c .before .before),
+        lt-ltb _ _ (c .before .if1 .taken),
+        rw (toZ-ofZ (start .fits .target)) at (c .if2 .taken),
+        opposite _ small,
+        toZ-ofZ (opposite-fits _ small),
+      ),
+      rw (opposite _ small, toZ-ofZ (opposite-fits _ small)) (omega (arith, mag-opposite (start .args .minimum) (le-suc _), small)),
+    )
+
+returns-2 : tie.Need-returns-2
+unfolding target0
+returns-2 c =
+    let start = c .before .before .before in
+    let small = start .fits .minimum .fits in (
+      rw (
+        ← absolute-is (c .before .before),
+        lt-ltb _ _ (c .before .if1 .taken),
+        rw (toZ-ofZ (start .fits .target)) at (c .if2 .left),
+        natural w32 (start .args .minimum) (omega (arith, small)),
+      ),
+      rw (natural w32 (start .args .minimum) (omega (arith, small))) small,
+    )
+
+cast-result-3 : tie.Need-cast-result-3
+cast-result-3 c = let fits = c .before .before .fits .target in rw (toZ-ofZ fits) (sfits-widen tt fits)
+
+returns-3 : tie.Need-returns-3
+unfolding target0
+returns-3 c =
+    let fits = c .before .before .fits .target in (
+      rw
+          (← absolute-is (c .before), le-ltb _ _ (c .if1 .left), toZ-ofZ fits, toZ-ofZ (sfits-widen {w′ = w32} tt fits)),
+      rw (toZ-ofZ fits, toZ-ofZ (sfits-widen {w′ = w32} tt fits)) (omega (arith, fits .sfits)),
+    )
+
+pub target-0-spec : {M : Type 1} → statement M
+target-0-spec =
+    tie.close
+    (tie.spec
+    (λ c κs. search needs)
+    (λ c. search needs)
+    sub-result
+    returns
+    (λ c. search needs)
+    returns-2
+    cast-result-3
+    returns-3)

@@ -1,0 +1,64 @@
+-- Document 01, "Causes": what bits 4, 7 and 14 count in MOTORRUN.
+use Prim.Native.Nat.{ℕ, _*_, _/_}
+use mathlib.Core.Bool.{Bool, false, _&&_, _||_, not}
+use mathlib.Core.List.{List}
+use lib.Dec.{eqb, ltb, leb}
+use lib.IntN.{pos, natAbs}
+use Rattle.numbers.specs.Choose.{pick}
+use Rattle.numbers.specs.Count.{up}
+use Rattle.settings.specs.Settings.{FluxFaultTime, RotorLockTime, HallTimeoutPeriod, MinSpd, MotorLim}
+use Rattle.fields.specs.declared.Tick.{Tick}
+use Rattle.motor.specs.declared.Slots.{Slots}
+use Rattle.motor.specs.declared.Run.{Run}
+use Rattle.motor.specs.declared.Watched.{Watched}
+
+-- "from zero at each entry"; "other states hold 0"
+abbrev pub still : Run
+still = record { slots = record { ticks = 0; bad = false; row = 0 }; lock = 0; still = 0; reference = pos 0 }
+
+-- 4: "slots of floor(5 x FluxFaultTime / 4) ticks"
+abbrev pub slotLength : ℕ → ℕ
+slotLength time = 5 * time / 4
+
+-- "a slot is bad if any tick has Flx_M below 512 or above 8192"
+abbrev pub badFlux : ℕ → Bool
+badFlux flux = ltb flux 512 || ltb 8192 flux
+
+-- the slot with one tick more: it ends at its last tick
+abbrev pub ends : ℕ → Slots → Bool
+ends length s = eqb (up length (s .ticks)) length
+
+abbrev pub nextSlots : ℕ → Bool → Slots → Slots
+nextSlots length badTick s =
+    record {
+      ticks = pick (ends length s) 0 (up length (s .ticks));
+      bad = (s .bad || badTick) && not (ends length s);
+      row = pick (ends length s) (pick (s .bad || badTick) (up 8 (s .row)) 0) (s .row);
+    }
+
+-- "It stands at the end of the eighth consecutive bad slot, and of each bad one following."
+abbrev pub fluxStands : ℕ → Bool → Slots → Bool
+fluxStands length badTick s = ends length s && (s .bad || badTick) && eqb (up 8 (s .row)) 8
+
+-- a condition "for [limit] consecutive ticks, and while this goes on": the count, and whether it stands
+abbrev pub lasting : ℕ → Bool → ℕ → ℕ
+lasting limit holds count = pick holds (up limit count) 0
+
+abbrev pub lasts : ℕ → Bool → ℕ → Bool
+lasts limit holds count = holds && eqb (up limit count) limit
+
+-- 7: "the absolute TrqRef is at least MotorLim and the absolute speed lies in MinSpd..4095"
+abbrev pub locked : List ℕ → Tick → Bool
+locked s t = leb (MotorLim s) (natAbs (t .torque)) && leb (MinSpd s) (natAbs (t .speed)) && leb (natAbs (t .speed)) 4095
+
+-- one tick taken in MOTORRUN: the counts after it, and which of the three causes stand; the reference is not theirs
+unfoldable pub watched : List ℕ → Tick → ℕ → Run → Watched
+watched s t stillCount r =
+    record {
+      slots = nextSlots (slotLength (FluxFaultTime s)) (badFlux (t .flux)) (r .slots);
+      lock = lasting (10 * RotorLockTime s) (locked s t) (r .lock);
+      still = lasting (10 * HallTimeoutPeriod s) (eqb stillCount 4096) (r .still);
+      flux = fluxStands (slotLength (FluxFaultTime s)) (badFlux (t .flux)) (r .slots);
+      locked = lasts (10 * RotorLockTime s) (locked s t) (r .lock);
+      timeout = lasts (10 * HallTimeoutPeriod s) (eqb stillCount 4096) (r .still);
+    }

@@ -1,0 +1,42 @@
+// What runs while the motor does: the counts of bits 4, 7 and 14, and the speed reference.
+mod choose;
+mod counts;
+mod reference;
+
+// The flux slots: ticks of the present slot, whether one of them was bad, and bad slots in a row.
+pub struct Slots {
+    pub ticks: u32,
+    pub bad: bool,
+    pub row: u32,
+}
+
+pub struct Run {
+    pub slots: Slots,
+    pub lock: u32,
+    pub still: u32,
+    pub reference: i32,
+}
+
+// The three counts after a tick, and which of their causes stand.
+pub struct Watched {
+    pub slots: Slots,
+    pub lock: u32,
+    pub still: u32,
+    pub flux: bool,
+    pub locked: bool,
+    pub timeout: bool,
+}
+
+const NO_SLOTS: Slots = Slots {
+    ticks: 0,
+    bad: false,
+    row: 0,
+};
+
+// What every state but MOTORRUN holds.
+pub const STILL: Run = Run {
+    slots: NO_SLOTS,
+    lock: 0,
+    still: 0,
+    reference: 0,
+};

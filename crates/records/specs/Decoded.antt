@@ -1,0 +1,51 @@
+-- Document 01, "Report line and program": the numbers and fields in the bytes of a record.
+use Prim.Native.Nat.{ℕ, zero, suc, _+_, _*_}
+use mathlib.Core.List.{List, [], _∷_}
+use lib.IntN.{ℤ}
+use lib.ListN.{getD}
+use mir.Syntax.{w16}
+use mir.Val.{toZ}
+use Rattle.fields.specs.declared.Cycle.{Cycle}
+use Rattle.fields.specs.declared.Tick.{Tick}
+
+-- the byte at a place
+abbrev pub byte : ℕ → List ℕ → ℕ
+byte at bytes = getD bytes at 0
+
+-- "Numbers are two bytes, high first": the number whose first byte stands at a place
+abbrev pub number : ℕ → List ℕ → ℕ
+number at bytes = byte at bytes * 256 + byte (at + 1) bytes
+
+-- "signed ones in two's complement"
+abbrev pub signedNumber : ℕ → List ℕ → ℤ
+signedNumber at bytes = toZ w16 (number at bytes)
+
+-- so many numbers, one after the other
+unfoldable pub numbers : ℕ → ℕ → List ℕ → List ℕ
+numbers zero at bytes = []
+numbers (suc count) at bytes = number at bytes ∷ numbers count (at + 2) bytes
+
+-- "L and 24 numbers"
+unfoldable pub settingsOf : List ℕ → List ℕ
+settingsOf bytes = numbers 24 1 bytes
+
+-- "C, pattern byte and two numbers"
+unfoldable pub cycleOf : List ℕ → Cycle
+cycleOf bytes = record { pattern = byte 1 bytes; first = number 2 bytes; second = number 4 bytes }
+
+-- "T, three bytes and eight numbers, in field order"
+unfoldable pub tickOf : List ℕ → Tick
+tickOf bytes =
+    record {
+      kill = byte 1 bytes;
+      clear = byte 2 bytes;
+      command = byte 3 bytes;
+      control = number 4 bytes;
+      raw = number 6 bytes;
+      filtered = number 8 bytes;
+      temperature = number 10 bytes;
+      flux = number 12 bytes;
+      torque = signedNumber 14 bytes;
+      speed = signedNumber 16 bytes;
+      target = signedNumber 18 bytes;
+    }
