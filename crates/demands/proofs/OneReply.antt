@@ -10,7 +10,7 @@ use mir.Syntax.{w16}
 use mir.Val.{toZ}
 use Rattle.numbers.specs.Count.{up}
 use Rattle.numbers.specs.Limit.{limit}
-use Rattle.verdicts.specs.Table.{Row, accepted, first, verdict}
+use Rattle.verdicts.specs.Table.{Row, first, verdict}
 use Rattle.verdicts.specs.declared.Verdict.{Verdict}
 use Rattle.settings.specs.Rules.{settingRows}
 use Rattle.settings.specs.Settings.{samples}
@@ -20,13 +20,13 @@ use Rattle.fields.specs.Fields.{cycleFields, tickFields}
 use Rattle.fields.specs.declared.Cycle.{Cycle}
 use Rattle.fields.specs.declared.Tick.{Tick}
 use Rattle.motor.specs.Counts.{watched}
-use Rattle.motor.specs.Reference.{starting, ran}
+use Rattle.motor.specs.Reference.{after}
 use Rattle.motor.specs.declared.Run.{Run}
 use Rattle.motor.specs.declared.Watched.{Watched}
 use Rattle.moves.specs.Moves.{moveOf}
 use Rattle.moves.specs.declared.Grounds.{Grounds}
 use Rattle.hall.specs.Fate.{fate}
-use Rattle.hall.specs.Sample.{poweredUp, sampled}
+use Rattle.hall.specs.Sample.{sampled}
 use Rattle.hall.specs.declared.Hall.{Hall}
 use Rattle.hall.specs.declared.fate.Kept.{Kept}
 use Rattle.drive.specs.Answer.{answer}
@@ -63,9 +63,6 @@ pub limited : (number : ℤ) → Settled (limit number)
 limited number = settled (limit number)
 
 -- verdicts
-pub verdicts-accepted : Settled accepted
-verdicts-accepted = settled accepted
-
 pub verdicts-first : (r : Row) (later : Verdict) → Settled (first r later)
 verdicts-first r later = settled (first r later)
 
@@ -79,9 +76,6 @@ settings-samples psc = settled (samples psc)
 -- hall
 pub judged : (pattern : ℕ) (kept : Kept) → Settled (fate pattern kept)
 judged pattern kept = settled (fate pattern kept)
-
-pub hall-power-up : Settled poweredUp
-hall-power-up = settled poweredUp
 
 pub hall-sampled : (hall : Hall) (pattern : ℕ) (offset : ℤ) → Settled (sampled hall pattern offset)
 hall-sampled hall pattern offset = settled (sampled hall pattern offset)
@@ -104,11 +98,10 @@ tick-verdict fields = settled (verdict (tickFields fields))
 pub run-watched : (settings : List ℕ) (t : Tick) (stillCount : ℕ) (r : Run) → Settled (watched settings t stillCount r)
 run-watched settings t stillCount r = settled (watched settings t stillCount r)
 
-pub run-starting : (t : Tick) → Settled (starting t)
-run-starting t = settled (starting t)
-
-pub run-ran : (settings : List ℕ) (t : Tick) (w : Watched) (r : Run) → Settled (ran settings t w r)
-run-ran settings t w r = settled (ran settings t w r)
+pub run-after :
+    (settings : List ℕ) (t : Tick) (w : Watched) (stays enters : Bool) (r : Run)
+    → Settled (after settings t w stays enters r)
+run-after settings t w stays enters r = settled (after settings t w stays enters r)
 
 -- moves
 pub move-of : (g : Grounds) → Settled (moveOf g)

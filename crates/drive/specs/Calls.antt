@@ -17,7 +17,7 @@ use Rattle.settings.specs.Settings.{FaultEnable, HallAngleOffset, OffsetPsc, Re
 use Rattle.fields.specs.declared.Cycle.{Cycle}
 use Rattle.fields.specs.declared.Tick.{Tick}
 use Rattle.motor.specs.Counts.{still, watched}
-use Rattle.motor.specs.Reference.{starting, ran}
+use Rattle.motor.specs.Reference.{after}
 use Rattle.motor.specs.declared.Run.{Run}
 use Rattle.motor.specs.declared.Watched.{Watched}
 use Rattle.moves.specs.Moves.{moveOf}
@@ -112,11 +112,11 @@ arrive d state flags offsets run armed retries =
     }
 
 -- "Entering .. in OFFSETCAL its sums"; "A start or entry to FAULT disarms, also in that tick."
-abbrev pub entered : Drive → Tick → Flags → Bool → State → Drive
-entered d t flags armed state =
+abbrev pub entered : Drive → Tick → Watched → Flags → Bool → State → Drive
+entered d t w flags armed state =
     arrive d state flags
     (pick (is 2 state) (cleared (d .offsets)) (d .offsets))
-    (pick (is 4 state) (starting t) still)
+    (after (d .settings) t w false (is 4 state) (d .run))
     (armed && not (is 3 state || is 5 state))
     (d .retries)
 
@@ -135,7 +135,7 @@ stayed d t w flags armed =
       cycles = d .cycles;
       ticks = nth d;
       offsets = d .offsets;
-      run = pick (is 4 (d .state)) (ran (d .settings) t w (d .run)) still;
+      run = after (d .settings) t w (is 4 (d .state)) false (d .run);
       armed = armed;
       retries = d .retries;
     }
@@ -155,7 +155,7 @@ retried d = arrive d Stop none (d .offsets) still true (up (RetryLimit (d .setti
 
 abbrev pub moved : Drive → Tick → Watched → Flags → Bool → Move → Drive
 moved d t w flags armed Stay = stayed d t w flags armed
-moved d t w flags armed (Enter state) = entered d t flags armed state
+moved d t w flags armed (Enter state) = entered d t w flags armed state
 moved d t w flags armed Measure = measured d flags armed
 moved d t w flags armed Clear = clearedTrip d armed
 moved d t w flags armed Retry = retried d

@@ -7,8 +7,7 @@ use crate::offsets::Offsets;
 use crate::offsets::UNMEASURED;
 use crate::refusals::awake;
 use fields::Cycle;
-use hall::Hall;
-use hall::Sampled;
+use hall::POWERED_UP;
 use motor::STILL;
 use numbers::count_up;
 use numbers::signed;
@@ -19,7 +18,7 @@ use states::State;
 ghost use mathlib.Core.Path.{_≡_};
 ghost use lib.ListN.{length};
 ghost use Rattle.numbers.specs.Choose.{pick};
-ghost use Rattle.drive.specs.Calls.{fresh, powerUp, load, sample, summed, cycled, cycle};
+ghost use Rattle.drive.specs.Calls.{fresh, powerUp, load, summed, cycled, cycle};
 
 fn fresh(state: State, settings: [u16; 24]) -> Drive
     ensures { λ r. ⌜ r ≡ fresh state settings ⌝ }
@@ -27,7 +26,7 @@ fn fresh(state: State, settings: [u16; 24]) -> Drive
     Drive {
         state,
         settings,
-        hall: Hall::power_up(),
+        hall: POWERED_UP,
         flags: NONE,
         cycles: 0,
         ticks: 0,
@@ -84,14 +83,6 @@ impl Drive {
         replied(fresh(State::Stop, settings), 0, 0)
     }
 
-    fn sample(self, cycle: Cycle) -> Sampled
-        ensures { λ r. ⌜ r ≡ sample self cycle ⌝ }
-    {
-        let settings = self.settings;
-        self.hall
-            .sampled(cycle.pattern, signed(settings[HALL_ANGLE_OFFSET]))
-    }
-
     fn summed(self, cycle: Cycle) -> Offsets
         ensures { λ r. ⌜ r ≡ summed self cycle ⌝ }
     {
@@ -111,7 +102,8 @@ impl Drive {
         let state = self.state;
         let settings = self.settings;
         let run = self.run;
-        let sampled = self.sample(cycle);
+        let offset = signed(settings[HALL_ANGLE_OFFSET]);
+        let sampled = self.hall.sampled(cycle.pattern, offset);
         let hall = sampled.hall;
         Drive {
             state,

@@ -23,14 +23,7 @@ use settings::RETRY_LIMIT;
 use settings::samples;
 use states::State;
 ghost use mathlib.Core.Path.{_≡_};
-ghost use Rattle.numbers.specs.Choose.{pick};
 ghost use Rattle.drive.specs.Calls.{nth, grounds, arrive, entered, stayed, measured, retried, moved, arms, ticked, tick};
-
-fn pick_run(test: bool, yes: Run, no: Run) -> Run
-    ensures { λ r. ⌜ r ≡ pick test yes no ⌝ }
-{
-    if test { yes } else { no }
-}
 
 impl Drive {
     fn nth(self) -> u32
@@ -66,12 +59,13 @@ impl Drive {
         }
     }
 
-    fn entered(self, tick: Tick, flags: Flags, armed: bool, state: State) -> Drive
-        ensures { λ r. ⌜ r ≡ entered self tick flags armed state ⌝ }
+    fn entered(self, tick: Tick, watched: Watched, flags: Flags, armed: bool, state: State) -> Drive
+        ensures { λ r. ⌜ r ≡ entered self tick watched flags armed state ⌝ }
     {
+        let settings = self.settings;
         let n = state.number();
         let offsets = pick_offsets(n == 2, self.offsets.cleared(), self.offsets);
-        let run = pick_run(n == 4, Run::starting(tick), STILL);
+        let run = self.run.after(settings, tick, watched, false, n == 4);
         self.arrive(
             state,
             flags,
@@ -89,11 +83,8 @@ impl Drive {
         let settings = self.settings;
         let hall = self.hall;
         let offsets = self.offsets;
-        let run = pick_run(
-            state.number() == 4,
-            self.run.ran(settings, tick, watched),
-            STILL,
-        );
+        let run = self.run
+            .after(settings, tick, watched, state.number() == 4, false);
         Drive {
             state,
             settings,
@@ -136,7 +127,7 @@ impl Drive {
     {
         match step {
             Move::Stay => self.stayed(tick, watched, flags, armed),
-            Move::Enter(state) => self.entered(tick, flags, armed, state),
+            Move::Enter(state) => self.entered(tick, watched, flags, armed, state),
             Move::Measure => self.measured(flags, armed),
             Move::Clear => { self.arrive(State::Stop, NONE, self.offsets, STILL, armed, 0) }
             Move::Retry => self.retried(),

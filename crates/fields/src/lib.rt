@@ -1,7 +1,7 @@
 // What a cycle and a tick are told, and which of their fields is the first out of its range.
 use numbers::absolute;
+use verdicts::ACCEPTED;
 use verdicts::Verdict;
-use verdicts::accepted;
 use verdicts::first;
 ghost use mathlib.Core.Path.{_≡_};
 ghost use lib.IntN.{natAbs};
@@ -33,7 +33,7 @@ impl Cycle {
     pub fn verdict(self) -> Verdict
         ensures { λ r. ⌜ r ≡ verdict (cycleFields self) ⌝ }
     {
-        let second = first(1, 3, 4095 < self.second, accepted());
+        let second = first(1, 3, 4095 < self.second, ACCEPTED);
         let sample = first(1, 2, 4095 < self.first, second);
         first(1, 1, 7 < self.pattern, sample)
     }
@@ -62,7 +62,7 @@ impl Tick {
     fn signed_verdict(self) -> Verdict
         ensures { λ r. ⌜ r ≡ verdict (signedFields self) ⌝ }
     {
-        let target = first(1, 11, 32767 < self.absolute_target(), accepted());
+        let target = first(1, 11, 32767 < self.absolute_target(), ACCEPTED);
         let speed = first(1, 10, 32767 < self.absolute_speed(), target);
         first(1, 9, 4095 < self.absolute_torque(), speed)
     }

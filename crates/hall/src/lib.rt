@@ -10,7 +10,7 @@ use fate::judged;
 use std::num::wrapping_add_u32;
 use std::num::wrapping_sub_u32;
 ghost use mathlib.Core.Path.{_≡_};
-ghost use Rattle.hall.specs.Sample.{poweredUp, keeps, rests, number, deadSample, straySample, sampled};
+ghost use Rattle.hall.specs.Sample.{keeps, rests, number, deadSample, straySample, sampled};
 
 // The Hall part of the drive state.
 pub struct Hall {
@@ -21,6 +21,16 @@ pub struct Hall {
     pub stray: u32,
     pub still: u32,
 }
+
+// No pattern kept, and all else zero.
+pub const POWERED_UP: Hall = Hall {
+    kept: Kept::Nothing,
+    position: 0,
+    angle: 0,
+    dead: 0,
+    stray: 0,
+    still: 0,
+};
 
 // What a sample gives: the next Hall part, what became of the sample, and whether it sets flag 15.
 pub struct Sampled {
@@ -57,19 +67,6 @@ fn number(kept: Kept) -> u8
 }
 
 impl Hall {
-    pub fn power_up() -> Self
-        ensures { λ r. ⌜ r ≡ poweredUp ⌝ }
-    {
-        Hall {
-            kept: Kept::Nothing,
-            position: 0,
-            angle: 0,
-            dead: 0,
-            stray: 0,
-            still: 0,
-        }
-    }
-
     // One sample: any pattern, against any Hall part.
     pub fn sampled(self, pattern: u8, offset: i16) -> Sampled
         ensures { λ r. ⌜ r ≡ sampled self pattern offset ⌝ }

@@ -1,5 +1,6 @@
 -- Document 01, "Speed reference", kept times 2048.
 use Prim.Native.Nat.{ℕ, _+_, _-_, _*_, _/_, min}
+use mathlib.Core.Bool.{Bool}
 use mathlib.Core.List.{List}
 use lib.Dec.{ltb}
 use lib.IntN.{ℤ, pos, negℤ, natAbs, _+ℤ_, _-ℤ_, _*ℤ_}
@@ -46,3 +47,7 @@ starting t = record { slots = still .slots; lock = 0; still = 0; reference = tim
 -- a tick that stays in MOTORRUN: the counts go on, and the reference moves toward the target
 abbrev pub ran : List ℕ → Tick → Watched → Run → Run
 ran s t w r = record { slots = w .slots; lock = w .lock; still = w .still; reference = ramped s t (r .reference) }
+
+-- after a tick that stays in MOTORRUN, or that enters it; "other states hold 0"
+abbrev pub after : List ℕ → Tick → Watched → Bool → Bool → Run → Run
+after s t w stays enters r = pick stays (ran s t w r) (pick enters (starting t) still)

@@ -1,6 +1,7 @@
 // The speed reference, kept times 2048.
 use crate::NO_SLOTS;
 use crate::Run;
+use crate::STILL;
 use crate::Watched;
 use fields::Tick;
 use numbers::absolute;
@@ -12,7 +13,7 @@ use settings::SPD_RAMP_RATE;
 ghost use mathlib.Core.Path.{_≡_};
 ghost use Prim.Native.Nat.{_<_};
 ghost use lib.Signed.{mag};
-ghost use Rattle.motor.specs.Reference.{times2048, target0, target1, targetOf, toward, ramped, starting, ran};
+ghost use Rattle.motor.specs.Reference.{times2048, target0, target1, targetOf, toward, ramped, starting, ran, after};
 
 fn times_2048(number: i32) -> i32
     requires { ⌜ mag number < 65536 ⌝ }
@@ -97,22 +98,22 @@ fn ramped(settings: [u16; 24], tick: Tick, reference: i32) -> i32
     )
 }
 
-impl Run {
-    // What the motor starts with on entering MOTORRUN.
-    pub fn starting(tick: Tick) -> Run
-        ensures { λ r. ⌜ r ≡ starting tick ⌝ }
-    {
-        let slots = NO_SLOTS;
-        Run {
-            slots,
-            lock: 0,
-            still: 0,
-            reference: scaled(tick.speed),
-        }
+// What the motor starts with on entering MOTORRUN.
+fn starting(tick: Tick) -> Run
+    ensures { λ r. ⌜ r ≡ starting tick ⌝ }
+{
+    let slots = NO_SLOTS;
+    Run {
+        slots,
+        lock: 0,
+        still: 0,
+        reference: scaled(tick.speed),
     }
+}
 
+impl Run {
     // A tick more in MOTORRUN.
-    pub fn ran(self, settings: [u16; 24], tick: Tick, watched: Watched) -> Run
+    fn ran(self, settings: [u16; 24], tick: Tick, watched: Watched) -> Run
         ensures { λ r. ⌜ r ≡ ran settings tick watched self ⌝ }
     {
         let slots = watched.slots;
@@ -123,5 +124,25 @@ impl Run {
             still: watched.still,
             reference,
         }
+    }
+
+    // After a tick that stays in MOTORRUN, that enters it, or that ends in another state.
+    pub fn after(
+        self,
+        settings: [u16; 24],
+        tick: Tick,
+        watched: Watched,
+        stays: bool,
+        enters: bool,
+    ) -> Run
+        ensures { λ r. ⌜ r ≡ after settings tick watched stays enters self ⌝ }
+    {
+        if stays {
+            return self.ran(settings, tick, watched);
+        }
+        if enters {
+            return starting(tick);
+        }
+        STILL
     }
 }

@@ -59,7 +59,7 @@ module _ (d : Drive) (r : Reached d) (t : Tick) (outside : T (not (is 0 (d .stat
       }
 
   -- a tick that enters FAULT
-  faulted : T (alight d (raised d t)) → Reached (entered d t (raised d t) (arms d t) Fault)
+  faulted : T (alight d (raised d t)) → Reached (entered d t (watch d t) (raised d t) (arms d t) Fault)
   faulted alive =
       record {
         idle = λ u. absurd u;
@@ -83,7 +83,7 @@ module _ (d : Drive) (r : Reached d) (t : Tick) (outside : T (not (is 0 (d .stat
   calibrating :
       T (not (d .offsets .measured))
       → T (not (alight d (raised d t)))
-      → Reached (entered d t (raised d t) (arms d t) OffsetCal)
+      → Reached (entered d t (watch d t) (raised d t) (arms d t) OffsetCal)
   calibrating unmeasured calm =
       record {
         idle = λ u. absurd u;
@@ -111,7 +111,7 @@ module _ (d : Drive) (r : Reached d) (t : Tick) (outside : T (not (is 0 (d .stat
       → T (d .offsets .measured)
       → (T (arms d t && not (is 3 s || is 5 s)) → ⊥)
       → T (not (alight d (raised d t)))
-      → Reached (entered d t (raised d t) (arms d t) s)
+      → Reached (entered d t (watch d t) (raised d t) (arms d t) s)
   turned s runs speed measured disarmed calm =
       let apart = turns s runs in
       record {

@@ -3,8 +3,8 @@ mod put;
 mod write;
 
 use drive::answer::Answer;
+use verdicts::ACCEPTED;
 use verdicts::Verdict;
-use verdicts::accepted;
 ghost use mathlib.Core.Path.{_≡_};
 ghost use lib.ListN.{length};
 ghost use Rattle.report.specs.Refusals.{told};
@@ -43,5 +43,5 @@ pub fn line(answer: Answer, lent: &mut [u8]) -> Verdict
         };
     }
     write::fields(answer, lent);
-    accepted()
+    ACCEPTED
 }

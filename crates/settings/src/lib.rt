@@ -1,6 +1,6 @@
 // The 24 settings: which of them breaks its rule first.
+use verdicts::ACCEPTED;
 use verdicts::Verdict;
-use verdicts::accepted;
 ghost use mathlib.Core.Path.{_≡_};
 ghost use Prim.Native.Nat.{_<_};
 ghost use Rattle.verdicts.specs.Table.{verdict};
@@ -144,7 +144,7 @@ pub fn verdict(settings: [u16; 24]) -> Verdict
         }
         i += 1;
     }
-    accepted()
+    ACCEPTED
 }
 
 // The powers of two from 2^13 down to 2^1.

@@ -32,16 +32,15 @@ returns-4 c =
 
 returns-5 : tie.Need-returns-5
 returns-5 c =
-    let past = c .before .before .before .before .before in
+    let past = c .before .before .before .before in
     rw (
-      c .accepted .ensures,
       le-ltb _ _ (past .before .before .before .before .before .before .if1 .left),
       le-ltb _ _ (past .before .before .before .before .if2 .left),
       le-ltb _ _ (past .before .before .if3 .left),
       le-ltb _ _ (past .if4 .left),
     )
-    (refl, c .before .before .before .fields .ensures)
+    (refl, c .before .before .fields .ensures)
 
 pub line-spec : {M : Type 1} → statement M
 line-spec =
-    tie.close (tie.spec returns returns-2 returns-3 returns-4 (λ c κs. search needs) (λ c κs. search needs) (λ c. search needs) returns-5)
+    tie.close (tie.spec returns returns-2 returns-3 returns-4 (λ c κs. search needs) (λ c. search needs) returns-5)

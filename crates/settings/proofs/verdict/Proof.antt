@@ -56,8 +56,8 @@ loop-again c =
 
 returns-2 : tie.Need-returns-2 Inv-loop μ-loop
 returns-2 c =
-    let end : c .before .before .loop .i ≡ 24 = omega (arith, c .before .before .loop .inv .0, c .before .loop-test .left) in
-    rw (c .before .before .loop .inv .1, end) (c .accepted .ensures)
+    let end : c .before .loop .i ≡ 24 = omega (arith, c .before .loop .inv .0, c .loop-test .left) in
+    rw (c .before .loop .inv .1, end)
 
 pub verdict-spec : {M : Type 1} → statement M
 verdict-spec =
@@ -73,5 +73,4 @@ verdict-spec =
     (λ c. search needs)
     (λ c. search needs)
     loop-again
-    (λ c κs. search needs)
     returns-2)

@@ -1,4 +1,6 @@
 -- `cycled` makes the next state in one literal, each changed part by the function of its definition.
+use mir.Syntax.{w16}
+use mir.Facts.{toZ-ofZ}
 use borrow.Author.Needs.{needs}
 use Rattle.drive.specs.Calls.{cycled}
 use Rattle.drive.proofs.Drive.cycled.Statement.{statement}
@@ -11,13 +13,17 @@ returns c =
       c .summed .ensures,
       c .before .count-up .ensures,
       c .before .before .with-hall .ensures,
-      c .before .before .before .before .sample .ensures,
+      c .before .before .before .before .sampled .ensures,
+      toZ-ofZ {w = w16} {z = c .before .before .before .before .before .signed .result} (search needs),
+      c .before .before .before .before .before .signed .ensures,
     )
 
 pub cycled-spec : {M : Type 1} → statement M
 cycled-spec =
     tie.close
     (tie.spec
+    (λ c. search needs)
+    (λ c κs. search needs)
     (λ c κs. search needs)
     (λ c κs. search needs)
     (λ c κs. search needs)

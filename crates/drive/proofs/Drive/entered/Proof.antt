@@ -7,18 +7,16 @@ returns : tie.Need-returns
 returns c =
     rw (
       c .arrive .ensures,
-      c .before .pick-run .ensures,
-      c .before .before .starting .ensures,
-      c .before .before .before .pick-offsets .ensures,
-      c .before .before .before .before .cleared .ensures,
-      c .before .before .before .before .before .number .ensures,
+      c .before .after .ensures,
+      c .before .before .pick-offsets .ensures,
+      c .before .before .before .cleared .ensures,
+      c .before .before .before .before .number .ensures,
     )
 
 pub entered-spec : {M : Type 1} → statement M
 entered-spec =
     tie.close
     (tie.spec
-    (λ c κs. search needs)
     (λ c κs. search needs)
     (λ c κs. search needs)
     (λ c κs. search needs)

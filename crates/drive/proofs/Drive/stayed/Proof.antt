@@ -7,16 +7,14 @@ returns : tie.Need-returns
 returns c =
     rw (
       c .nth .ensures,
-      c .before .pick-run .ensures,
-      c .before .before .ran .ensures,
-      c .before .before .before .number .ensures,
+      c .before .after .ensures,
+      c .before .before .number .ensures,
     )
 
 pub stayed-spec : {M : Type 1} → statement M
 stayed-spec =
     tie.close
     (tie.spec
-    (λ c κs. search needs)
     (λ c κs. search needs)
     (λ c κs. search needs)
     (λ c κs. search needs)

@@ -9,14 +9,12 @@ returns c =
       c .first3 .ensures,
       c .before .before .first2 .ensures,
       c .before .before .before .before .first .ensures,
-      c .before .before .before .before .before .accepted .ensures,
     )
 
 pub verdict-spec : {M : Type 1} → statement M
 verdict-spec =
     tie.close
     (tie.spec
-    (λ c κs. search needs)
     (λ c κs. search needs)
     (λ c κs. search needs)
     (λ c κs. search needs)

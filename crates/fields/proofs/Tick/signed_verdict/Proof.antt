@@ -11,15 +11,13 @@ returns c =
       c .before .before .first2 .ensures,
       c .before .before .before .absolute-speed .ensures,
       c .before .before .before .before .first .ensures,
-      c .before .before .before .before .before .accepted .ensures,
-      c .before .before .before .before .before .before .absolute-target .ensures,
+      c .before .before .before .before .before .absolute-target .ensures,
     )
 
 pub signed-verdict-spec : {M : Type 1} → statement M
 signed-verdict-spec =
     tie.close
     (tie.spec
-    (λ c κs. search needs)
     (λ c κs. search needs)
     (λ c κs. search needs)
     (λ c κs. search needs)

@@ -2,8 +2,8 @@
 use mir.Syntax.{w16, w32}
 use mir.Facts.{toZ-ofZ}
 use borrow.Author.Needs.{needs}
-use Rattle.motor.proofs.Run.starting.Statement.{statement}
-use Rattle.motor.proofs.Run.starting.Tie as tie
+use Rattle.motor.proofs.reference.starting.Statement.{statement}
+use Rattle.motor.proofs.reference.starting.Tie as tie
 
 returns : tie.Need-returns
 returns c =
