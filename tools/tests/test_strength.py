@@ -57,10 +57,19 @@ class Strength(unittest.TestCase):
     def test_a_truth_value_is_turned(self):
         self.assertEqual(self.changed("    f(true)"), ["    f(false)"])
 
+    def test_a_test_by_a_name_is_denied(self):
+        self.assertEqual(self.changed("    if holds {"), ["    if !holds {"])
+        self.assertEqual(self.changed("    if holds(x) {"), [])
+
+    def test_a_constant_of_the_crate_is_changed_and_a_public_one_is_not(self):
+        shut = "const SHUT: Gate = Gate {\n    open: false,\n};\n"
+        self.assertEqual(strength.code_lines("pub(crate) " + shut), [1])
+        self.assertEqual(strength.code_lines("pub " + shut), [])
+
     def test_the_last_byte_of_a_text_is_another(self):
         self.assertEqual(self.changed('    *b"STOP....",'), ['    *b"STOP..._",'])
         self.assertEqual(self.changed('    *b"SENSING7",'), ['    *b"SENSING.",'])
-        self.assertEqual(self.changed("    if below { b'-' }"), ["    if below { b'.' }"])
+        self.assertEqual(self.changed("    f(b'-')"), ["    f(b'.')"])
 
     def test_a_constant_of_one_line_is_changed(self):
         self.assertEqual(strength.code_lines("// 1\nconst LENGTH: usize = 45;\npub struct Line {\n    pub length: u8,\n}"), [1])

@@ -7,7 +7,6 @@ use borrow.Author.Tests.{eqb-true}
 use Rattle.numbers.specs.Choose.{pick}
 use Rattle.drive.specs.Answer
 use Rattle.drive.specs.Answer.{answer}
-use Rattle.drive.specs.Causes
 use Rattle.verdicts.specs.Table.{Row, verdict}
 use Rattle.drive.specs.Refusals.{loadRows, cycleRows, tickRows}
 use Rattle.drive.specs.Calls

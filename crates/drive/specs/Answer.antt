@@ -21,7 +21,7 @@ gateOf state = pick (is 3 state) 1 (pick (turning state) 2 0)
 abbrev pub gate : State → Flags → ℕ
 gate state alive = pick (alive .kill) 0 (pick (alive .critical) 3 (pick (any alive) 0 (gateOf state)))
 
--- "The live word"
+-- the flags of the drive that are live; "The live word" is theirs
 abbrev pub alive : Drive → Flags
 alive d = live (FaultEnable (d .settings)) (d .flags)
 

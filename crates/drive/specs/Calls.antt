@@ -61,11 +61,11 @@ powerUp = fresh Idle (replicate 24 0)
 abbrev pub settle : Verdict → Drive → Drive → Reply
 settle v next d = pick (eqb (v .number) 0) (reply 0 0 next) (reply (v .number) (v .place) d)
 
--- "An accepted load gives STOP and clears everything else to power-up values"
+-- "An accepted load gives STOP and clears everything else to power-up values"; "keeps its 24 settings as loaded"
 unfoldable pub load : Drive → List ℕ → Reply
 load d numbers = settle (verdict (loadRows d numbers)) (fresh Stop numbers) d
 
--- the sample of a cycle, judged with the offset that is loaded
+-- the sample of a cycle, judged with HallAngleOffset, "any (signed)"
 abbrev pub sample : Drive → Cycle → Sampled
 sample d c = sampled (d .hall) (c .pattern) (toZ w16 (HallAngleOffset (d .settings)))
 
@@ -76,7 +76,7 @@ summed d c =
     (added (c .first) (c .second) (d .offsets))
     (d .offsets)
 
--- "Cycles in the present state are counted to at most 65535."
+-- the sample is judged, flag 15 set where it says so; "Cycles in the present state are counted to at most 65535."
 unfoldable pub cycled : Drive → Cycle → Drive
 cycled d c =
     record {
@@ -111,7 +111,7 @@ arrive d state flags offsets run armed retries =
       retries = retries;
     }
 
--- "Entering .. in OFFSETCAL its sums"; "A start or entry to FAULT disarms, also in that tick."
+-- "Entering a state zeroes .. in OFFSETCAL its sums"; "A start or entry to FAULT disarms, also in that tick."
 abbrev pub entered : Drive → Tick → Watched → Flags → Bool → State → Drive
 entered d t w flags armed state =
     arrive d state flags
@@ -120,11 +120,11 @@ entered d t w flags armed state =
     (armed && not (is 3 state || is 5 state))
     (d .retries)
 
--- which tick of its state this one is, from 1; counted to 65535, past every number of ticks that is asked for
+-- which tick of its state this one is, from 1; counted to 65535, which no number of ticks that is asked for exceeds
 abbrev pub nth : Drive → ℕ
 nth d = up 65535 (d .ticks)
 
--- "Each tick staying there [MOTORRUN] moves it toward the target ..; other states hold 0."
+-- a tick that does not move; "Each tick staying there [MOTORRUN] moves it toward the target"
 abbrev pub stayed : Drive → Tick → Watched → Flags → Bool → Drive
 stayed d t w flags armed =
     record {
@@ -140,12 +140,12 @@ stayed d t w flags armed =
       retries = d .retries;
     }
 
--- "to 1; each offset is its sum divided by N, rounded down"
+-- "to 1; each offset is its sum divided by N"
 abbrev pub measured : Drive → Flags → Bool → Drive
 measured d flags armed =
     arrive d Stop flags (measuredBy (samples (OffsetPsc (d .settings))) (d .offsets)) still armed (d .retries)
 
--- "clear = 1 .. zeroes flags and retries, to 1"
+-- "clear = 1 .. zeroes flags and retries, to 1"; "A masked cause cleared while standing is flagged again at the next tick", by `raised`
 abbrev pub clearedTrip : Drive → Bool → Drive
 clearedTrip d armed = arrive d Stop none (d .offsets) still armed 0
 
@@ -168,13 +168,15 @@ arms d t = d .armed || low (d .settings) t && not (is 5 (d .state))
 abbrev pub watch : Drive → Tick → Watched
 watch d t = watched (d .settings) t (d .hall .still) (d .run)
 
--- the causes that stand, the flags with them, and whether one of some flags is live
+-- the causes that stand
 abbrev pub standing : Drive → Tick → Flags
 standing d t = causes (d .settings) (is 4 (d .state)) (d .hall .dead) t (watch d t)
 
+-- "Causes standing at a tick set these flags, which stay until cleared."
 abbrev pub raised : Drive → Tick → Flags
 raised d t = either (d .flags) (standing d t)
 
+-- one of these flags is live
 abbrev pub alight : Drive → Flags → Bool
 alight d flags = any (live (FaultEnable (d .settings)) flags)
 

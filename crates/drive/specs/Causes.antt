@@ -1,4 +1,4 @@
--- Document 01, "Causes standing at a tick set these flags, which stay until cleared."
+-- Document 01, "Causes": which of them stand at a tick.
 use Prim.Native.Nat.{ℕ}
 use mathlib.Core.Bool.{Bool, _&&_}
 use mathlib.Core.List.{List}

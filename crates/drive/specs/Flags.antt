@@ -1,4 +1,4 @@
--- Document 01, "Causes": "flags, which stay until cleared"; "A flag is live if its FaultEnable bit is 1; 0 and 1 are always live."
+-- Document 01, "Causes": the flags, those of them that are live, and the word of 16 bits.
 use Prim.Native.Nat.{ℕ, _+_, _/_, _%_, _^_}
 use mathlib.Core.Bool.{Bool, false, _&&_, _||_}
 use lib.Dec.{eqb}

@@ -1,4 +1,4 @@
--- Document 01, "Cycle": "In OFFSETCAL the first N = 2^(13 - OffsetPsc) add their samples to two sums."; "each offset is its sum divided by N, rounded down".
+-- Document 01, "Cycle" and "Move": the two offsets and the sums that they are made of.
 use Prim.Native.Nat.{ℕ, _+_, _/_, _%_, _^_}
 use mathlib.Core.Bool.{true, false}
 use Rattle.drive.specs.declared.offsets.Pair.{Pair}

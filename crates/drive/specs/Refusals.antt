@@ -12,14 +12,15 @@ use Rattle.fields.specs.declared.Cycle.{Cycle}
 use Rattle.fields.specs.declared.Tick.{Tick}
 use Rattle.drive.specs.declared.Drive.{Drive}
 
--- "3: cycle or tick in IDLE. 1: cycle or tick field out of range"
+-- rows 3, "cycle or tick in IDLE", and 1, "cycle or tick field out of range"; "3 before 1"
 abbrev pub cycleRows : Drive → Cycle → List Row
 cycleRows d c = row 3 0 (is 0 (d .state)) ∷ cycleFields c
 
 abbrev pub tickRows : Drive → Tick → List Row
 tickRows d t = row 3 0 (is 0 (d .state)) ∷ tickFields t
 
--- "4: load outside IDLE and STOP. 2: settings not 24 numbers, 0. 2: a setting breaks its rule." "Order: 4 before 2"
+-- rows 4, "load outside IDLE and STOP", and 2, "settings not 24 numbers" and "a setting breaks its rule"; "4 before 2"; "of two rows
+-- with one number, the upper first"
 abbrev pub loadRows : Drive → List ℕ → List Row
 loadRows d numbers =
     row 4 0 (not (is 0 (d .state) || is 1 (d .state)))

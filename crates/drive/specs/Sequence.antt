@@ -1,4 +1,4 @@
--- Document 01, "What the promises settle": "Its sequences hand each call the state that the call before left, the first that of power-up."
+-- Document 01: a call, and what it replies. Demand 3 "hands each call the state that the call before left" (`history` Supervisor.antt).
 use mathlib.Core.List.{List}
 use Prim.Native.Nat.{ℕ}
 use Rattle.drive.specs.Calls.{load, cycle, tick}

@@ -1,4 +1,5 @@
--- Document 01, "Cycle" and "Tick": the fields and their ranges. "1: cycle or tick field out of range, first bad field, from 1."
+-- Document 01, "Cycle" and "Tick": the fields and their ranges, as rows of refusal 1, "cycle or tick field out of range", with the place
+-- "first bad field, from 1".
 use mathlib.Core.List.{List, [], _∷_}
 use lib.Dec.{ltb}
 use lib.IntN.{natAbs}
@@ -19,7 +20,7 @@ signedFields t =
     ∷ []
 
 -- "Fields: gate kill, clear, command (0..1 each); control, VdcRaw, VdcFilt, temperature number (0..4095, rising with heat);
--- Flx_M (0..65535);" and these
+-- Flx_M (0..65535);" and the three of `signedFields`
 abbrev pub tickFields : Tick → List Row
 tickFields t =
     row 1 1 (ltb 1 (t .kill))

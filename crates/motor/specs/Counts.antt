@@ -20,14 +20,15 @@ still = record { slots = record { ticks = 0; bad = false; row = 0 }; lock = 0; s
 abbrev pub slotLength : ℕ → ℕ
 slotLength time = 5 * time / 4
 
--- "a slot is bad if any tick has Flx_M below 512 or above 8192"
+-- a tick that makes its slot bad: "Flx_M below 512 or above 8192"
 abbrev pub badFlux : ℕ → Bool
 badFlux flux = ltb flux 512 || ltb 8192 flux
 
--- the slot with one tick more: it ends at its last tick
+-- this tick is the last of its slot
 abbrev pub ends : ℕ → Slots → Bool
 ends length s = eqb (up length (s .ticks)) length
 
+-- "a slot is bad if any tick [is]"; a good slot ends the row of bad ones
 abbrev pub nextSlots : ℕ → Bool → Slots → Slots
 nextSlots length badTick s =
     record {
@@ -51,7 +52,8 @@ lasts limit holds count = holds && eqb (up limit count) limit
 abbrev pub locked : List ℕ → Tick → Bool
 locked s t = leb (MotorLim s) (natAbs (t .torque)) && leb (MinSpd s) (natAbs (t .speed)) && leb (natAbs (t .speed)) 4095
 
--- one tick taken in MOTORRUN: the counts after it, and which of the three causes stand; the reference is not theirs
+-- one tick taken in MOTORRUN: the counts after it, and which of the three causes stand; 7: "for 10 x RotorLockTime consecutive ticks";
+-- 14: "the still count is 4096 for 10 x HallTimeoutPeriod consecutive ticks, and while this goes on"
 unfoldable pub watched : List ℕ → Tick → ℕ → Run → Watched
 watched s t stillCount r =
     record {

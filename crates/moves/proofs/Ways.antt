@@ -1,10 +1,9 @@
 -- How the move of a tick comes about: what each way to choose a move tells of what it is decided by.
 use mathlib.Core.Bool.{Bool, true, false, _&&_, _||_, not}
-use mathlib.Core.Path.{_≡_}
 use Prim.Native.Nat.{_*_, _≤_, _<_}
 use lib.Dec.{T, eqb, ltb, leb}
 use lib.IntN.{natAbs}
-use mir.Facts.{T-not-not, and-yes, leb-yes, ltb-yes, eqb-yes}
+use mir.Facts.{T-not-not, and-yes, leb-yes, ltb-yes}
 use Rattle.numbers.specs.Choose.{pick}
 use Rattle.numbers.proofs.Choices.{by-test}
 use Rattle.settings.specs.Settings

@@ -17,7 +17,7 @@ use Rattle.moves.specs.declared.Move.the-variants.{Stay, Enter, Measure,
 abbrev pub fromStop : Bool → Bool → Bool → Move
 fromStop measured armed high = pick (not measured) (Enter OffsetCal) (pick (armed && high) (Enter BtsCharge) Stay)
 
--- "2 OFFSETCAL: N cycles done, to 1; each offset is its sum divided by N, rounded down."
+-- "2 OFFSETCAL: N cycles done, to 1; [..]"
 abbrev pub fromOffsetCal : List ℕ → ℕ → Move
 fromOffsetCal s cycles = pick (leb (Settings.samples (Settings.OffsetPsc s)) cycles) Measure Stay
 
@@ -27,10 +27,10 @@ fromBtsCharge s cycles = pick (leb (Settings.BtsChargeTime s) cycles) (Enter Cat
 
 -- "6 CATCHSPIN: TCatchSpin 0, to 9. Else at its TCatchSpin-th tick: absolute speed above DirectStartThr, to 4, otherwise to 9."
 abbrev pub fromCatchSpin : List ℕ → ℕ → ℕ → Move
-fromCatchSpin s n speed =
+fromCatchSpin s nth absoluteSpeed =
     pick (eqb (Settings.TCatchSpin s) 0) (Enter AngleSensing)
-    (pick (leb (Settings.TCatchSpin s) n)
-    (pick (ltb (Settings.DirectStartThr s) speed) (Enter MotorRun) (Enter AngleSensing))
+    (pick (leb (Settings.TCatchSpin s) nth)
+    (pick (ltb (Settings.DirectStartThr s) absoluteSpeed) (Enter MotorRun) (Enter AngleSensing))
     Stay)
 
 -- "9 ANGLESENSING: IS_Pulses 0, to 7; else 6 x IS_Pulses cycles done, to 4 (house)."
@@ -41,19 +41,19 @@ fromAngleSensing s cycles =
 
 -- "7 PARKING: at its ParkTime-th tick, or its first if that is 0, to 8."
 abbrev pub fromParking : List ℕ → ℕ → Move
-fromParking s n = pick (leb (Settings.ParkTime s) n) (Enter OpenLoop) Stay
+fromParking s nth = pick (leb (Settings.ParkTime s) nth) (Enter OpenLoop) Stay
 
 -- "8 OPENLOOP: OpenLoopRamp 0, or absolute speed at least MinSpd, to 4."
 abbrev pub fromOpenLoop : List ℕ → ℕ → Move
-fromOpenLoop s speed = pick (eqb (Settings.OpenLoopRamp s) 0 || leb (Settings.MinSpd s) speed) (Enter MotorRun) Stay
+fromOpenLoop s absoluteSpeed = pick (eqb (Settings.OpenLoopRamp s) 0 || leb (Settings.MinSpd s) absoluteSpeed) (Enter MotorRun) Stay
 
 -- "5 FAULT: no live cause may stand. Then clear = 1, in either mode (house), [..] to 1. Else in mode 1, from its 10,000th tick on,
 -- with fewer than RetryLimit retries used: [..] to 1."
 abbrev pub fromFault : List ℕ → ℕ → ℕ → ℕ → Bool → Move
-fromFault s n retries clear blocked =
+fromFault s nth retries clear blocked =
     pick blocked Stay
     (pick (eqb clear 1) Clear
-    (pick (Settings.mode1 s && leb 10000 n && ltb retries (Settings.RetryLimit s)) Retry Stay))
+    (pick (Settings.mode1 s && leb 10000 nth && ltb retries (Settings.RetryLimit s)) Retry Stay))
 
 -- "Else:" each state's own move; "4 MOTORRUN: stays."; a tick in IDLE is refused
 abbrev pub own : Grounds → State → Move
@@ -68,6 +68,7 @@ own g Parking = fromParking (g .settings) (g .nth)
 own g OpenLoop = fromOpenLoop (g .settings) (natAbs (g .speed))
 own g AngleSensing = fromAngleSensing (g .settings) (g .cycles)
 
+-- tripped: a flag is live, with the causes of this tick; blocked: a live cause stands.
 -- "Outside FAULT, any live flag moves to FAULT. Else, in the six starting and running states (3, 4, 6, 7, 8, 9), a low moves to STOP."
 unfoldable pub moveOf : Grounds → Move
 moveOf g =

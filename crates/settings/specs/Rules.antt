@@ -1,4 +1,4 @@
--- Document 01, "Settings, in order": the rule of each, and "2: a setting breaks its rule".
+-- Document 01, "Settings, in order": the rule of each, and row 2, "a setting breaks its rule".
 use Prim.Native.Nat.{ℕ, _+_}
 use mathlib.Core.Bool.{Bool, true, _&&_, not}
 use mathlib.Core.List.{List, [], _∷_, map}
@@ -40,7 +40,7 @@ rule s i = leb (getD lowest i 0) (getD s i 0) && leb (getD s i 0) (getD highest 
 abbrev pub indices : List ℕ
 indices = 0 ∷ 1 ∷ 2 ∷ 3 ∷ 4 ∷ 5 ∷ 6 ∷ 7 ∷ 8 ∷ 9 ∷ 10 ∷ 11 ∷ 12 ∷ 13 ∷ 14 ∷ 15 ∷ 16 ∷ 17 ∷ 18 ∷ 19 ∷ 20 ∷ 21 ∷ 22 ∷ 23 ∷ []
 
--- "2: a setting breaks its rule, first bad setting, from 1"
+-- row 2, "a setting breaks its rule", with the place "first bad setting, from 1"
 abbrev pub settingRow : List ℕ → ℕ → Row
 settingRow s i = row 2 (i + 1) (not (rule s i))
 

@@ -1,4 +1,4 @@
--- Document 01, "Move": the states and their numbers.
+-- Document 01: the states and their numbers. "Move" has those of 1 to 9; IDLE is 0: "Power-up is IDLE, all zero."
 use Prim.Native.Nat.{ℕ}
 use mathlib.Core.Bool.{Bool, _||_}
 use lib.Dec.{eqb}
