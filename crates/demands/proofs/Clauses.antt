@@ -5,7 +5,7 @@ use Prim.Native.Nat.{_≤_}
 use lib.Dec.{T, leb→le}
 use Rattle.history.specs.History.{Seen, holds, holdsAfter, gatesRule, exitRule, retryRule, running, startTaken, permitted, beforeStart, lowSince, retrySince, everLoaded, exited, retries, loadedLimit, whenever}
 use Rattle.history.specs.Supervisor.{seen, stateAfter, history}
-use Rattle.drive.specs.Sequence.{Call}
+use Rattle.drive.specs.AnyCall.{Call}
 use Rattle.demands.specs.Supervised.{supervisor}
 use Rattle.demands.proofs.Lawful.{drive-demand3}
 

@@ -9,7 +9,7 @@ use lib.Dec.{eqb, ltb}
 use lib.ListN.{length, length-append, List·getD-append}
 use borrow.Author.Tests.{ltb-true, ltb-false, le-ltb, ne-eqb, eqb-true, eqb-false}
 use Rattle.numbers.specs.Choose.{pick}
-use Rattle.drive.specs.Sequence.{Call, loads, cycles, ticks}
+use Rattle.drive.specs.AnyCall.{Call, loads, cycles, ticks}
 use Rattle.records.specs.Decoded.{byte, number, numbers, settingsOf, cycleOf, tickOf}
 use Rattle.records.specs.Front.{sizeOf, Front, end, unknown, short, whole, held, front}
 

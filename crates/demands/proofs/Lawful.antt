@@ -27,7 +27,7 @@ use Rattle.drive.specs.Refusals.{loadRows, cycleRows, tickRows}
 use Rattle.fields.specs.Fields.{tickFields}
 use Rattle.drive.specs.Calls.{fresh, settle, cycled, ticked, sample, standing, alight}
 use Rattle.drive.specs.Calls
-use Rattle.drive.specs.Sequence.{Call, loads, cycles, ticks, reply}
+use Rattle.drive.specs.AnyCall.{Call, loads, cycles, ticks, reply}
 use Rattle.drive.specs.declared.Drive.{Drive}
 use Rattle.fields.specs.declared.Cycle.{Cycle}
 use Rattle.fields.specs.declared.Tick.{Tick}

@@ -11,7 +11,7 @@ use Rattle.verdicts.specs.Table.{Row, verdict}
 use Rattle.drive.specs.Refusals.{loadRows, cycleRows, tickRows}
 use Rattle.drive.specs.Calls
 use Rattle.drive.specs.Calls.{settle}
-use Rattle.drive.specs.Sequence.{Call, loads, cycles, ticks, reply}
+use Rattle.drive.specs.AnyCall.{Call, loads, cycles, ticks, reply}
 use Rattle.drive.specs.declared.Drive.{Drive}
 use Rattle.fields.specs.declared.Cycle.{Cycle}
 use Rattle.fields.specs.declared.Tick.{Tick}

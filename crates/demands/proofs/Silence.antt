@@ -10,7 +10,7 @@ use Rattle.numbers.specs.Count.{up}
 use Rattle.states.specs.States.{is}
 use Rattle.drive.specs.Flags.{none}
 use Rattle.drive.specs.Calls.{powerUp}
-use Rattle.drive.specs.Sequence.{reply}
+use Rattle.drive.specs.AnyCall.{reply}
 use lib.IntN.{pos, negsuc}
 use Rattle.hall.specs.declared.fate.Kept.the-variants.{Pattern}
 use Rattle.states.specs.declared.State.the-variants.{Stop, Fault}

@@ -8,7 +8,7 @@ use lib.Dec.{T}
 use lib.ListN.{length, drop, length-append, length-drop}
 use lib.Seq.{drop-append-le, drop-drop}
 use Rattle.numbers.specs.Choose.{pick}
-use Rattle.drive.specs.Sequence.{Call, loads, cycles, ticks, reply}
+use Rattle.drive.specs.AnyCall.{Call, loads, cycles, ticks, reply}
 use Rattle.drive.specs.declared.Drive.{Drive}
 use Rattle.report.specs.Refusals.{lineLength}
 use Rattle.report.specs.Line.{line}

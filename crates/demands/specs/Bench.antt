@@ -14,7 +14,7 @@ use Rattle.motor.specs.Counts.{still}
 use Rattle.motor.specs.Reference.{times2048, target1}
 use Rattle.drive.specs.Answer.{gate, answer}
 use Rattle.drive.specs.Calls.{fresh}
-use Rattle.drive.specs.Sequence.{Call, cycles, ticks, reply}
+use Rattle.drive.specs.AnyCall.{Call, cycles, ticks, reply}
 use Rattle.drive.specs.declared.Drive.{Drive}
 use Rattle.fields.specs.declared.Cycle.{Cycle}
 use Rattle.fields.specs.declared.Tick.{Tick}

@@ -2,7 +2,7 @@
 -- a timed retry, and one in which a command held high after a clear starts nothing.
 use Prim.Native.Nat.{ℕ}
 use mathlib.Core.List.{List, [], _∷_, _++_}
-use Rattle.drive.specs.Sequence.{Call, loads, cycles, ticks}
+use Rattle.drive.specs.AnyCall.{Call, loads, cycles, ticks}
 use Rattle.drive.specs.Calls.{powerUp}
 use Rattle.drive.specs.declared.Drive.{Drive}
 use Rattle.demands.specs.Bench.{settingsIn, told, quiet, sample, after, times}

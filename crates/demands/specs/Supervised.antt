@@ -9,7 +9,7 @@ use Rattle.drive.specs.Command.{low}
 use Rattle.drive.specs.Flags.{any}
 use Rattle.drive.specs.Answer.{alive, gate}
 use Rattle.drive.specs.Calls.{powerUp, alight, standing}
-use Rattle.drive.specs.Sequence.{Call, loads, cycles, ticks, reply}
+use Rattle.drive.specs.AnyCall.{Call, loads, cycles, ticks, reply}
 use Rattle.drive.specs.declared.Drive.{Drive}
 use Rattle.states.specs.declared.State.{State}
 use Rattle.states.specs.declared.State.the-variants.{Idle, Stop, OffsetCal, BtsCharge, MotorRun, Fault, CatchSpin, Parking, OpenLoop, AngleSensing}

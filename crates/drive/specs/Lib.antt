@@ -5,4 +5,4 @@ pub mod Answer
 pub mod Causes
 pub mod Refusals
 pub mod Calls
-pub mod Sequence
+pub mod AnyCall

@@ -1,7 +1,7 @@
 -- The order of the integers: what is added goes up, what is taken away goes down, and what lies between two numbers that fit a width fits it.
 use mathlib.Core.Path.{_≡_, refl, sym, subst}
 use mathlib.Core.Bool.{Bool, true, false}
-use Prim.Native.Nat.{ℕ, zero, suc, _+_, _-_}
+use Prim.Native.Nat.{ℕ, zero, suc, _+_, _-_, _≤_}
 use native.Mathlib.Omega.{arith}
 use lib.Dec.{T, leb, ltb, leb→le, le→leb}
 use lib.IntN.{ℤ, pos, negsuc, subℕ, _+ℤ_, _-ℤ_, +ℤ-idr}
@@ -35,8 +35,23 @@ goes-down (pos a) (suc n) = from-above a n (ltb a (suc n)) refl
 goes-down (negsuc a) zero = subst (λ (z : ℤ). T (leZ z (negsuc a))) (sym (+ℤ-idr (negsuc a))) (le→leb a a (omega arith))
 goes-down (negsuc a) (suc n) = le→leb a (suc (a + n)) (omega arith)
 
-pub between : {w : Width} (a z b : ℤ) → T (leZ a z) → T (leZ z b) → SFits w a → SFits w b → SFits w z
-between a (pos n) (pos m) low high fa fb = record { sfits = omega (arith, leb→le n m high, fb .sfits) }
-between a (pos n) (negsuc m) low high fa fb = absurd high
-between (pos k) (negsuc n) b low high fa fb = absurd low
-between (negsuc k) (negsuc n) b low high fa fb = record { sfits = omega (arith, leb→le n k low, fa .sfits) }
+-- what holds of two numbers holds of all between them, if with a number it holds of those of its sign that are nearer to zero
+pub between :
+    (P : ℤ → Type 0)
+    → ((n k : ℕ) → n ≤ k → P (pos k) → P (pos n))
+    → ((n k : ℕ) → n ≤ k → P (negsuc k) → P (negsuc n))
+    → (a z b : ℤ)
+    → T (leZ a z)
+    → T (leZ z b)
+    → P a
+    → P b
+    → P z
+between P above below a (pos n) (pos k) low high of-a of-b = above n k (leb→le n k high) of-b
+between P above below a (pos n) (negsuc k) low high of-a of-b = absurd high
+between P above below (pos k) (negsuc n) b low high of-a of-b = absurd low
+between P above below (negsuc k) (negsuc n) b low high of-a of-b = below n k (leb→le n k low) of-a
+
+pub fits-between : {w : Width} (a z b : ℤ) → T (leZ a z) → T (leZ z b) → SFits w a → SFits w b → SFits w z
+fits-between {w} =
+    between (SFits w) (λ n k nearer f. record { sfits = omega (arith, nearer, f .sfits) })
+    (λ n k nearer f. record { sfits = omega (arith, nearer, f .sfits) })

@@ -19,7 +19,7 @@ use Rattle.fields.specs.declared.Cycle.{Cycle}
 use Rattle.fields.specs.declared.Tick.{Tick}
 use Rattle.states.specs.declared.State.the-variants.{Stop}
 use Rattle.reached.specs.Reached.{Loaded, Reached}
-use Rattle.drive.specs.Sequence.{Call, loads, cycles, ticks, reply}
+use Rattle.drive.specs.AnyCall.{Call, loads, cycles, ticks, reply}
 use Rattle.reached.specs.Calls.{reaches}
 use Rattle.reached.proofs.Verdicts.{settled, passed, accepted-settings}
 use Rattle.reached.proofs.Hall.{hall-power-up, sampled-within}

@@ -4,13 +4,13 @@ use mathlib.Core.Bool.{Bool, true, false, _||_}
 use mathlib.Core.List.{List}
 use Prim.Native.Nat.{ℕ, zero, suc, _*_, _≤_, _<_}
 use native.Mathlib.Omega.{arith}
-use lib.Dec.{T, leb→le, eqb, ltb}
+use lib.Dec.{T, eqb, ltb}
 use lib.IntN.{ℤ, pos, negsuc, negℤ, natAbs, _+ℤ_, _-ℤ_}
 use lib.Ieee.Bits.{is-true}
 use lib.Signed.{leZ, ltZ}
 use mir.Facts.{eqb-no}
 use Rattle.numbers.specs.Count.{up}
-use Rattle.numbers.proofs.Order.{below-is-at-most, goes-up, goes-down}
+use Rattle.numbers.proofs.Order.{below-is-at-most, goes-up, goes-down, between}
 use Rattle.settings.specs.Settings.{FluxFaultTime, MinSpd, SpdRampRate, CmdStart, CmdGain, mode1}
 use Rattle.motor.specs.Counts.{still, slotLength, badFlux, locked, ends, nextSlots, lasting, watched}
 use Rattle.motor.specs.Reference.{times2048, target0, target1, targetOf, toward, starting, ran}
@@ -24,11 +24,9 @@ use Rattle.reached.proofs.Verdicts.{at-least, at-most}
 -- ---- the reference
 
 -- what lies between two numbers is no larger than the larger of them
-between : {m : ℕ} (a z b : ℤ) → T (leZ a z) → T (leZ z b) → natAbs a ≤ m → natAbs b ≤ m → natAbs z ≤ m
-between a (pos n) (pos k) low high a-small b-small = omega (arith, leb→le n k high)
-between a (pos n) (negsuc k) low high a-small b-small = absurd high
-between (pos k) (negsuc n) b low high a-small b-small = absurd low
-between (negsuc k) (negsuc n) b low high a-small b-small = omega (arith, leb→le n k low)
+small-between : {m : ℕ} (a z b : ℤ) → T (leZ a z) → T (leZ z b) → natAbs a ≤ m → natAbs b ≤ m → natAbs z ≤ m
+small-between {m} =
+    between (λ (z : ℤ). natAbs z ≤ m) (λ n k nearer small. omega (arith, nearer, small)) (λ n k nearer small. omega (arith, nearer, small))
 
 at-most-as-below : (a b : ℤ) → T (ltZ a b) → T (leZ a b)
 at-most-as-below a b t = below-is-at-most a b (is-true (ltZ a b) t)
@@ -54,11 +52,11 @@ toward-within {m} rate target reference target-small reference-small =
     let below : ℤ = reference -ℤ pos rate in
     by-test (λ (z : ℤ). natAbs z ≤ m) (ltZ above target)
     (λ t.
-    between reference above target (goes-up reference rate) (at-most-as-below above target t) reference-small target-small)
+    small-between reference above target (goes-up reference rate) (at-most-as-below above target t) reference-small target-small)
     (λ t.
     by-test (λ (z : ℤ). natAbs z ≤ m) (ltZ target below)
     (λ u.
-    between target below reference (at-most-as-below target below u) (goes-down reference rate) target-small reference-small)
+    small-between target below reference (at-most-as-below target below u) (goes-down reference rate) target-small reference-small)
     (λ u. target-small))
 
 -- the target of either mode is a speed

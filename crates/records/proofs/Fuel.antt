@@ -11,7 +11,7 @@ use Rattle.numbers.specs.Choose.{pick}
 use Rattle.drive.specs.declared.Drive.{Drive}
 use Rattle.report.specs.Refusals.{lineLength}
 use Rattle.report.specs.Line.{line}
-use Rattle.drive.specs.Sequence.{Call as Record, reply}
+use Rattle.drive.specs.AnyCall.{Call as Record, reply}
 use Rattle.records.specs.Front.{sizeOf, Front, end, unknown, short, whole, front}
 use Rattle.records.specs.Run.{Outcome, rest, onto, follow, runs}
 use Rattle.records.proofs.One.{at-tight, at-end}

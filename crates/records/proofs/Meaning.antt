@@ -8,7 +8,7 @@ use lib.Dec.{eqb, ltb}
 use lib.ListN.{length}
 use borrow.Author.Tests.{ltb-false}
 use Rattle.numbers.specs.Choose.{pick}
-use Rattle.drive.specs.Sequence.{Call as Record, loads as load, cycles as cycle, ticks as tick}
+use Rattle.drive.specs.AnyCall.{Call as Record, loads as load, cycles as cycle, ticks as tick}
 use Rattle.records.specs.Decoded.{byte, settingsOf, cycleOf, tickOf}
 use Rattle.records.specs.Front.{sizeOf, Front, end, unknown, short, whole, held, front, told}
 use Rattle.records.specs.declared.Found.{Found}

@@ -13,7 +13,7 @@ use Rattle.drive.specs.declared.answer.Reply.{Reply}
 use Rattle.report.specs.Refusals.{lineLength}
 use Rattle.report.specs.Line.{line, written as lineWritten}
 use Rattle.report.proofs.Fields.{length-line}
-use Rattle.drive.specs.Sequence.{Call as Record, reply}
+use Rattle.drive.specs.AnyCall.{Call as Record, reply}
 use Rattle.records.specs.Front.{sizeOf, end, unknown, short, whole, front}
 use Rattle.records.specs.Run.{Outcome, onto, rest, refused, runs, told, written}
 use Rattle.records.specs.declared.Ran.{Ran}

@@ -1,4 +1,4 @@
-use Rattle.drive.specs.Sequence.{Call as Record, loads as aLoad, cycles as aCycle, ticks as aTick, reply as replyTo}
+use Rattle.drive.specs.AnyCall.{Call as Record, loads as aLoad, cycles as aCycle, ticks as aTick, reply as replyTo}
 -- Every answer that the run prints is accepted by the line call where 45 bytes are lent: its number comes from a table whose numbers
 -- are small, its state and its gate from the drive.
 use mathlib.Core.Path.{_≡_}

@@ -5,7 +5,7 @@ use mathlib.Core.List.{List}
 use lib.Dec.{eqb, ltb}
 use lib.ListN.{length}
 use Rattle.numbers.specs.Choose.{pick}
-use Rattle.drive.specs.Sequence.{Call, loads, cycles, ticks}
+use Rattle.drive.specs.AnyCall.{Call, loads, cycles, ticks}
 use Rattle.records.specs.Decoded.{byte, settingsOf, cycleOf, tickOf}
 use Rattle.records.specs.declared.Found.{Found}
 use Rattle.records.specs.declared.Found.the-variants.{End, Unknown, Short, Load as LoadAt, Cycle as CycleAt, Tick as TickAt}

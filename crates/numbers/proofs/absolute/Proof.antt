@@ -42,7 +42,9 @@ cast-result : tie.Need-cast-result
 cast-result c = rw (toZ-ofZ (whole c)) (wide c)
 
 sub-result : tie.Need-sub-result
-sub-result c = rw (toZ-ofZ (whole c), toZ-ofZ (wide c), opposite c) (opposite-fits c)
+sub-result c =
+    let difference : SFits w32 (pos 0 -ℤ c .before .args .number) = rw (opposite c) (opposite-fits c) in
+    rw (toZ-ofZ (whole c), toZ-ofZ (wide c)) difference
 
 cast-result-2 : tie.Need-cast-result-2
 cast-result-2 c =

@@ -32,7 +32,9 @@ module _ (c : tie.Else1) where
   lower = lowered (c .before .args .bits) (c .if1 .left) (c .before .fits .bits .fits)
 
 sub-result : tie.Need-sub-result
-sub-result c = rw (lower c) (sfits-widen tt (word c))
+sub-result c =
+    let difference : SFits w32 (toZ w32 (c .before .args .bits) -ℤ pos 65536) = rw (lower c) (sfits-widen tt (word c)) in
+    difference
 
 cast-result-3 : tie.Need-cast-result-3
 cast-result-3 c = rw (lower c, toZ-ofZ (sfits-widen {w′ = w32} tt (word c))) (word c)

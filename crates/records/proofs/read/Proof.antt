@@ -40,7 +40,7 @@ returns-2 c =
     rw (
       some-left (now (start .args .input)) (start .args .at) (c .before .before .before .if1 .left),
       eq-eqb _ _ (c .before .if2 .taken),
-      lt-ltb _ _ (c .if3 .taken),
+      lt-ltb _ 49 (c .if3 .taken),
     )
 
 returns-3 : tie.Need-returns-3
@@ -49,7 +49,7 @@ returns-3 c =
     rw (
       some-left (now (start .args .input)) (start .args .at) (c .before .before .before .if1 .left),
       eq-eqb _ _ (c .before .if2 .taken),
-      le-ltb _ _ (c .if3 .left),
+      le-ltb _ 49 (c .if3 .left),
     )
 
 returns-4 : tie.Need-returns-4
@@ -59,7 +59,7 @@ returns-4 c =
       some-left (now (start .args .input)) (start .args .at) (c .before .before .before .before .if1 .left),
       ne-eqb _ _ (c .before .before .if2 .left),
       eq-eqb _ _ (c .before .if4 .taken),
-      lt-ltb _ _ (c .if5 .taken),
+      lt-ltb _ 6 (c .if5 .taken),
     )
 
 returns-5 : tie.Need-returns-5
@@ -69,7 +69,7 @@ returns-5 c =
       some-left (now (start .args .input)) (start .args .at) (c .before .before .before .before .if1 .left),
       ne-eqb _ _ (c .before .before .if2 .left),
       eq-eqb _ _ (c .before .if4 .taken),
-      le-ltb _ _ (c .if5 .left),
+      le-ltb _ 6 (c .if5 .left),
     )
 
 returns-6 : tie.Need-returns-6
@@ -80,7 +80,7 @@ returns-6 c =
       ne-eqb _ _ (c .before .before .before .if2 .left),
       ne-eqb _ _ (c .before .before .if4 .left),
       eq-eqb _ _ (c .before .if6 .taken),
-      lt-ltb _ _ (c .if7 .taken),
+      lt-ltb _ 20 (c .if7 .taken),
     )
 
 returns-7 : tie.Need-returns-7
@@ -91,7 +91,7 @@ returns-7 c =
       ne-eqb _ _ (c .before .before .before .if2 .left),
       ne-eqb _ _ (c .before .before .if4 .left),
       eq-eqb _ _ (c .before .if6 .taken),
-      le-ltb _ _ (c .if7 .left),
+      le-ltb _ 20 (c .if7 .left),
     )
 
 returns-8 : tie.Need-returns-8

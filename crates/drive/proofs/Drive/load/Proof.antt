@@ -1,28 +1,38 @@
 -- `load` tests its rows in the table's order; accepted, the array that it made is the numbers lent.
+use mathlib.Core.Path.{_≡_}
+use mathlib.Core.Bool.{Bool, true, false, _||_, not}
+use Prim.Native.Nat.{ℕ}
+use lib.Dec.{eqb}
 use borrow.Author.Needs.{needs}
 use borrow.Author.Tests.{eq-eqb, ne-eqb}
 use Rattle.drive.specs.Calls.{load}
 use Rattle.drive.proofs.Drive.load.Statement.{statement}
 use Rattle.drive.proofs.Drive.load.Tie as tie
 
+-- neither IDLE nor STOP
+abbrev outside : ℕ → Bool
+outside n = not (eqb n 0 || eqb n 1)
+
 returns : tie.Need-returns
 unfolding load
-returns c = rw (← c .before .before .number .ensures, c .before .if1 .taken) (c .replied .ensures)
+returns c =
+    let refused : outside (c .before .before .number .result) ≡ true = c .before .if1 .taken in
+    rw (← c .before .before .number .ensures, refused) (c .replied .ensures)
 
 returns-2 : tie.Need-returns-2
 unfolding load
 returns-2 c =
-    rw
-    (← c .before .before .before .number .ensures, c .before .before .if1 .left, ne-eqb _ _ (c .before .if2 .taken))
-    (c .replied2 .ensures)
+    let taken : outside (c .before .before .before .number .result) ≡ false = c .before .before .if1 .left in
+    rw (← c .before .before .before .number .ensures, taken, ne-eqb _ 24 (c .before .if2 .taken)) (c .replied2 .ensures)
 
 returns-3 : tie.Need-returns-3
 unfolding load
 returns-3 c =
+    let taken : outside (c .before .before .before .before .before .before .before .number .result) ≡ false = c .before .before .before .before .before .before .if1 .left in
     rw (
       ← c .before .before .before .before .before .before .before .number .ensures,
-      c .before .before .before .before .before .before .if1 .left,
-      eq-eqb _ _ (c .before .before .before .before .before .if2 .left),
+      taken,
+      eq-eqb _ 24 (c .before .before .before .before .before .if2 .left),
       ← c .before .before .before .before .copied .ensures,
       ← c .before .before .before .verdict .ensures,
       ne-eqb _ _ (c .before .if3 .taken),
@@ -32,10 +42,11 @@ returns-3 c =
 returns-4 : tie.Need-returns-4
 unfolding load
 returns-4 c =
+    let taken : outside (c .before .before .before .before .before .before .before .before .number .result) ≡ false = c .before .before .before .before .before .before .before .if1 .left in
     rw (
       ← c .before .before .before .before .before .before .before .before .number .ensures,
-      c .before .before .before .before .before .before .before .if1 .left,
-      eq-eqb _ _ (c .before .before .before .before .before .before .if2 .left),
+      taken,
+      eq-eqb _ 24 (c .before .before .before .before .before .before .if2 .left),
       ← c .before .before .before .before .before .copied .ensures,
       ← c .before .before .before .before .verdict .ensures,
       eq-eqb _ _ (c .before .before .if3 .left),

@@ -10,7 +10,7 @@ use mir.Val.{SFits, toZ, ofZ}
 use mir.Facts.{toZ-ofZ, sfits-widen}
 use borrow.Author.Needs.{needs}
 use Rattle.numbers.proofs.Sums.{mag-sum, mag-opposite, natural}
-use Rattle.numbers.proofs.Order.{below-is-at-most, goes-up, goes-down, between}
+use Rattle.numbers.proofs.Order.{below-is-at-most, goes-up, goes-down, fits-between}
 use Rattle.motor.specs.Reference.{toward}
 use Rattle.motor.proofs.reference.toward.Statement.{statement}
 use Rattle.motor.proofs.reference.toward.Tie as tie
@@ -74,7 +74,7 @@ second-test s b e =
 above-fits : (c : tie.Then1) → SFits w32 (c .before .args .reference +ℤ pos (c .before .args .rate))
 above-fits c =
     let s = c .before in
-    between (s .args .reference) (s .args .reference +ℤ pos (s .args .rate)) (s .args .target)
+    fits-between (s .args .reference) (s .args .reference +ℤ pos (s .args .rate)) (s .args .target)
     (goes-up (s .args .reference) (s .args .rate))
     (below-is-at-most (s .args .reference +ℤ pos (s .args .rate)) (s .args .target) (first-test s true (c .if1 .taken)))
     (s .fits .reference)
@@ -83,7 +83,7 @@ above-fits c =
 below-fits : (c : tie.Then2) → SFits w32 (c .before .before .args .reference -ℤ pos (c .before .before .args .rate))
 below-fits c =
     let s = c .before .before in
-    between (s .args .target) (s .args .reference -ℤ pos (s .args .rate)) (s .args .reference)
+    fits-between (s .args .target) (s .args .reference -ℤ pos (s .args .rate)) (s .args .reference)
     (below-is-at-most (s .args .target) (s .args .reference -ℤ pos (s .args .rate)) (second-test s true (c .if2 .taken)))
     (goes-down (s .args .reference) (s .args .rate))
     (s .fits .target)

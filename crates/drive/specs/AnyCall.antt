@@ -1,4 +1,4 @@
--- Document 01: a call, and what it replies. Demand 3 "hands each call the state that the call before left" (`history` Supervisor.antt).
+-- Document 01: any of the three calls, and what it replies. How "sequences hand each call the state that the call before left" is `history`'s.
 use mathlib.Core.List.{List}
 use Prim.Native.Nat.{ℕ}
 use Rattle.drive.specs.Calls.{load, cycle, tick}
