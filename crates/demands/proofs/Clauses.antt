@@ -3,6 +3,7 @@ use mathlib.Core.Bool.{Bool, true, false, not, _&&_, _||_}
 use mathlib.Core.List.{List, _∷_}
 use Prim.Native.Nat.{_≤_}
 use lib.Dec.{T, leb→le}
+use mir.Facts.{and-yes}
 use Rattle.history.specs.History.{Seen, holds, holdsAfter, gatesRule, exitRule, retryRule, running, startTaken, permitted, beforeStart, lowSince, retrySince, everLoaded, exited, retries, loadedLimit, whenever}
 use Rattle.history.specs.Supervisor.{seen, stateAfter, history}
 use Rattle.drive.specs.AnyCall.{Call}
@@ -10,12 +11,10 @@ use Rattle.demands.specs.Supervised.{supervisor}
 use Rattle.demands.proofs.Lawful.{drive-demand3}
 
 and-left : (a b : Bool) → T (a && b) → T a
-and-left true b t = tt
-and-left false b t = absurd t
+and-left a b t = and-yes a b t .0
 
 and-right : (a b : Bool) → T (a && b) → T b
-and-right true b t = t
-and-right false b t = absurd t
+and-right a b t = and-yes a b t .1
 
 so : (a b : Bool) → T (whenever a b) → T a → T b
 so true b t given = t

@@ -1,6 +1,6 @@
 -- The ten states and the places that the onlooker tells apart: which turn, which is FAULT, and where a start leads on to.
 use mathlib.Core.Path.{_≡_, refl}
-use mathlib.Core.Bool.{Bool, not, _&&_}
+use mathlib.Core.Bool.{not}
 use lib.Dec.{T}
 use Rattle.history.specs.Onlooker.{Place, atStop, atStart, atRun, atFault, elsewhere, isStartOrRun, isFault}
 use Rattle.states.specs.States.{is, turning}
@@ -44,30 +44,6 @@ run-place CatchSpin t = refl
 run-place Parking t = refl
 run-place OpenLoop t = refl
 run-place AngleSensing t = refl
-
-pub run-loaded : (state : State) → T (isRun state) → T (not (is 0 state))
-run-loaded Idle t = absurd t
-run-loaded Stop t = absurd t
-run-loaded OffsetCal t = absurd t
-run-loaded BtsCharge t = absurd t
-run-loaded MotorRun t = tt
-run-loaded Fault t = absurd t
-run-loaded CatchSpin t = tt
-run-loaded Parking t = tt
-run-loaded OpenLoop t = tt
-run-loaded AngleSensing t = tt
-
-pub run-unarmed : (state : State) → T (isRun state) → (armed : Bool) → T (not (is 5 state && armed))
-run-unarmed Idle t armed = absurd t
-run-unarmed Stop t armed = absurd t
-run-unarmed OffsetCal t armed = absurd t
-run-unarmed BtsCharge t armed = absurd t
-run-unarmed MotorRun t armed = tt
-run-unarmed Fault t armed = absurd t
-run-unarmed CatchSpin t armed = tt
-run-unarmed Parking t armed = tt
-run-unarmed OpenLoop t armed = tt
-run-unarmed AngleSensing t armed = tt
 
 pub no-fault : (place : Place) → T (isStartOrRun place) → T (not (isFault place))
 no-fault atStop t = tt

@@ -4,8 +4,6 @@ use mathlib.Core.Bool.{Bool, true, false}
 use mathlib.Core.List.{List}
 use lib.Dec.{eqb}
 use borrow.Author.Tests.{eqb-true}
-use Rattle.numbers.specs.Choose.{pick}
-use Rattle.drive.specs.Answer
 use Rattle.drive.specs.Answer.{answer}
 use Rattle.verdicts.specs.Table.{Row, verdict}
 use Rattle.drive.specs.Refusals.{loadRows, cycleRows, tickRows}
@@ -20,6 +18,7 @@ use Rattle.motor.specs.declared.Watched.{Watched}
 use Rattle.moves.specs.declared.Move.{Move}
 use Rattle.moves.specs.declared.Move.the-variants.{Stay, Enter, Measure, Clear, Retry}
 use Rattle.verdicts.specs.declared.Verdict.{Verdict}
+use Rattle.reached.proofs.Verdicts.{settled}
 
 -- the table of refusals of a call
 abbrev pub rows : Drive → Call → List Row
@@ -56,11 +55,7 @@ settings-moved d t w flags armed Clear = refl
 settings-moved d t w flags armed Retry = refl
 
 settled-settings : (v : Verdict) (next d : Drive) → next .settings ≡ d .settings → settle v next d .drive .settings ≡ d .settings
-settled-settings v next d e = go (eqb (v .number) 0)
-  where
-    go : (b : Bool) → pick b (Answer.reply 0 0 next) (Answer.reply (v .number) (v .place) d) .drive .settings ≡ d .settings
-    go true = e
-    go false = refl
+settled-settings v next d e = settled (λ (after : Drive) (taken : Bool). after .settings ≡ d .settings) v next d (λ none. e) refl
 
 pub cycle-keeps-settings : (d : Drive) (c : Cycle) → Calls.cycle d c .drive .settings ≡ d .settings
 unfolding Calls.cycle Calls.cycled

@@ -1,5 +1,5 @@
 -- An accepted tick obeys the laws of demand 3.
-use mathlib.Core.Path.{_≡_, refl, subst}
+use mathlib.Core.Path.{_≡_, subst}
 use mathlib.Core.Bool.{Bool, true, false, not, _&&_, _||_}
 use mathlib.Core.List.{List}
 use Prim.Native.Nat.{ℕ}
@@ -26,9 +26,10 @@ use Rattle.states.specs.declared.State.the-variants.{Stop, OffsetCal, BtsCharge
 use Rattle.moves.specs.declared.Grounds.{Grounds}
 use Rattle.moves.specs.declared.Move.{Move}
 use Rattle.moves.specs.declared.Move.the-variants.{Stay, Enter, Measure, Clear, Retry}
+use Rattle.reached.proofs.Flags.{stays-with-causes}
 use Rattle.demands.specs.Supervised.{placeOf, turns}
-use Rattle.demands.proofs.Gates.{gates-by, either-alive}
-use Rattle.demands.proofs.Places.{turning-place, fault-place, run-place, run-loaded, run-unarmed, no-fault}
+use Rattle.demands.proofs.Gates.{gates-by}
+use Rattle.demands.proofs.Places.{turning-place, fault-place, run-place, no-fault}
 use Rattle.demands.proofs.Steps.{holds, Asks, Arms, stays-law, rests-law, starts-law, runs-law, clears-law, retries-law}
 
 -- ---- what the drive holds inside
@@ -65,13 +66,7 @@ unarmed true low t = absurd t
 unarmed false true t = tt
 unarmed false false t = tt
 
-stays-unarmed : (fault armed low : Bool) → T (not (fault && armed)) → T (not (fault && (armed || low && not fault)))
-stays-unarmed true true low t = absurd t
-stays-unarmed true false true t = tt
-stays-unarmed true false false t = tt
-stays-unarmed false armed low t = tt
-
-not-both : (a b : Bool) → (T a → T (not b)) → T (not (a && b))
+pub not-both : (a b : Bool) → (T a → T (not b)) → T (not (a && b))
 not-both true b f = f tt
 not-both false b f = tt
 
@@ -108,7 +103,7 @@ module _ (settings : List ℕ) (hall : Hall) (flags : Flags) (cycles ticks : ℕ
   on state = grounds (at state) t (standing (at state) t) (raised (at state) t)
 
   kept : (state : State) → T (any (alive (at state))) → T (tripped state)
-  kept state = either-alive (FaultEnable settings) flags (standing (at state) t)
+  kept state = stays-with-causes (FaultEnable settings) flags (standing (at state) t)
 
   abbrev next : State → Move → Drive
   next state move = moved (at state) t (watch (at state) t) (raised (at state) t) (arms (at state) t) move
@@ -203,32 +198,6 @@ module _ (settings : List ℕ) (hall : Hall) (flags : Flags) (cycles ticks : ℕ
       held
       no-cause
       (asks (next Fault Retry))
-
-  -- what stays true: the settings stand, the drive stays loaded, and in FAULT it is not armed
-  abbrev Keeps : Drive → Type 0
-  Keeps after = (after .settings ≡ settings) × T (not (is 0 (after .state))) × T (not (is 5 (after .state) && after .armed))
-
-  keeps-move :
-      (state : State) (move : Move)
-      → T (not (is 0 state))
-      → T (not (is 5 state && armed))
-      → Way (on state) state move
-      → Keeps (next state move)
-  keeps-move state Stay loaded fault (stays no-low no-trip) = (refl, loaded, stays-unarmed (is 5 state) armed (low settings t) fault)
-  keeps-move state (Enter Fault) loaded fault (trips free trip) = (refl, tt, disarmed (armed || low settings t && not (is 5 state)))
-  keeps-move state (Enter Stop) loaded fault (stops turns-on is-low no-trip) = (refl, tt, tt)
-  keeps-move Stop (Enter OffsetCal) loaded fault (calibrates unmeasured no-trip) = (refl, tt, tt)
-  keeps-move Stop (Enter BtsCharge) loaded fault (starts measured is-armed is-high no-trip) = (refl, tt, tt)
-  keeps-move state (Enter after) loaded fault (goes-on turns-on on-run no-low no-trip) =
-      (refl, run-loaded after on-run, run-unarmed after on-run ((armed || low settings t && not (is 5 state)) && not (is 3 after || is 5 after)))
-  keeps-move OffsetCal Measure loaded fault (measures done no-trip) = (refl, tt, tt)
-  keeps-move Fault Clear loaded fault (clears no-cause clear) = (refl, tt, tt)
-  keeps-move Fault Retry loaded fault (tries-again no-cause held mode late room) = (refl, tt, tt)
-
-  pub tick-keeps : (state : State) → T (not (is 0 state)) → T (not (is 5 state && armed)) → Keeps (ticked (at state) t)
-  unfolding ticked
-  tick-keeps state loaded fault =
-      keeps-move state (chosen (at state) t) loaded fault (way-of (on state))
 
   -- the tick itself
   pub tick-obeys :

@@ -1,6 +1,6 @@
 -- A refused call leaves the state as it was; an accepted one has passed every row of its table of refusals.
-use mathlib.Core.Path.{_≡_}
-use mathlib.Core.Bool.{Bool, true, false, _&&_, not}
+use mathlib.Core.Path.{_≡_, refl}
+use mathlib.Core.Bool.{Bool, true, false, _&&_, _||_, not}
 use mathlib.Core.List.{List, [], _∷_, map}
 use Prim.Native.Nat.{ℕ, zero, suc, _+_, _≤_, _<_}
 use native.Mathlib.Nat.{le-of-suc-le-suc, not-suc-le-zero}
@@ -9,24 +9,35 @@ use lib.Dec.{T, eqb, leb, ltb, eqb→eq, leb→le, ltb→lt}
 use lib.ListN.{length, getD}
 use mir.Facts.{T-not-not, and-yes, eqb-yes}
 use Rattle.numbers.specs.Choose.{pick}
-use Rattle.numbers.proofs.Table.{both, both-left, both-right, at}
+use Rattle.numbers.proofs.Table.{at}
 use Rattle.verdicts.specs.Table.{Row, verdict}
 use Rattle.settings.specs.Rules.{rule, related, indices, lowest, highest, settingRow, settingRows}
+use Rattle.states.specs.States.{is}
+use Rattle.drive.specs.Answer.{answer}
 use Rattle.drive.specs.Refusals.{loadRows}
 use Rattle.drive.specs.Calls.{settle}
 use Rattle.drive.specs.declared.Drive.{Drive}
 use Rattle.verdicts.specs.declared.Verdict.{Verdict}
-use Rattle.drive.specs.declared.answer.Reply.{Reply}
 use Rattle.reached.specs.Reached.{Loaded}
-use Rattle.numbers.proofs.Choices.{by-test}
 
+settled-by :
+    (P : Drive → Bool → Type 0) (v : Verdict) (next d : Drive) (none : Bool)
+    → eqb (v .number) 0 ≡ none
+    → (T none → P next true)
+    → P d false
+    → P (settle v next d .drive) (eqb (settle v next d .answer .number) 0)
+unfolding answer
+settled-by P v next d true e accepted refused = rw e (accepted tt)
+settled-by P v next d false e accepted refused = rw e (rw e refused)
+
+-- a call that settles by its verdict: accepted it leaves the next state, refused the one before, and its number says which
 pub settled :
-    (P : Drive → Type 0) (v : Verdict) (next d : Drive)
-    → (v .number ≡ 0 → P next)
-    → P d
-    → P (settle v next d .drive)
+    (P : Drive → Bool → Type 0) (v : Verdict) (next d : Drive)
+    → (v .number ≡ 0 → P next true)
+    → P d false
+    → P (settle v next d .drive) (eqb (settle v next d .answer .number) 0)
 settled P v next d accepted refused =
-    by-test (λ (r : Reply). P (r .drive)) (eqb (v .number) 0) (λ t. accepted (eqb-yes t)) (λ t. refused)
+    settled-by P v next d (eqb (v .number) 0) refl (λ t. accepted (eqb-yes t)) refused
 
 -- no row of the table holds
 abbrev pub Passed : List Row → Type 0
@@ -36,7 +47,7 @@ Passed (r ∷ rows) = T (not (r .holds)) × Passed rows
 -- the rows' numbers are those of refusals
 abbrev pub numbered : List Row → Bool
 numbered [] = true
-numbered (r ∷ rows) = both (ltb 0 (r .number)) (numbered rows)
+numbered (r ∷ rows) = ltb 0 (r .number) && numbered rows
 
 first-passed :
     (holds : Bool) (found rest : Verdict)
@@ -49,9 +60,9 @@ first-passed false found rest positive e = (tt, e)
 pub passed : (rows : List Row) → T (numbered rows) → verdict rows .number ≡ 0 → Passed rows
 passed [] t e = tt
 passed (r ∷ rows) t e =
-    let positive = ltb→lt 0 (r .number) (both-left (ltb 0 (r .number)) (numbered rows) t) in
+    let positive = ltb→lt 0 (r .number) (and-yes (ltb 0 (r .number)) (numbered rows) t .0) in
     let first = first-passed (r .holds) (record { number = r .number; place = r .place }) (verdict rows) positive e in
-    (first .0, passed rows (both-right (ltb 0 (r .number)) (numbered rows) t) (first .1))
+    (first .0, passed rows (and-yes (ltb 0 (r .number)) (numbered rows) t .1) (first .1))
 
 -- ---- settings
 
@@ -68,6 +79,11 @@ rule-at s (i ∷ places) p (suc k) h = rule-at s places (p .1) k (le-of-suc-le-s
 -- the rows' places are 0, 1, 2 and so on
 place-at : (k : ℕ) → k < 24 → getD indices k 0 ≡ k
 place-at k h = eqb→eq (getD indices k 0) k (at (λ i x. eqb x i) indices 0 tt k h)
+
+-- an accepted load was made in IDLE or STOP, and its settings keep their rules
+pub accepted-state : (d : Drive) (numbers : List ℕ) → verdict (loadRows d numbers) .number ≡ 0 → T (is 0 (d .state) || is 1 (d .state))
+unfolding settingRows
+accepted-state d numbers e = T-not-not (is 0 (d .state) || is 1 (d .state)) (passed (loadRows d numbers) tt e .0)
 
 pub accepted-settings : (d : Drive) (numbers : List ℕ) → verdict (loadRows d numbers) .number ≡ 0 → Loaded numbers
 unfolding settingRows

@@ -7,6 +7,7 @@ use mathlib.Core.List.{List, [], _∷_}
 use Prim.Native.Nat.{ℕ, _≤_}
 use native.Mathlib.Omega.{arith}
 use lib.Dec.{T, eqb, leb, leb→le}
+use mir.Facts.{and-yes}
 use Rattle.numbers.specs.Choose.{pick}
 use Rattle.states.specs.States.{numberOf, is, turning}
 use Rattle.drive.specs.Flags.{any}
@@ -57,17 +58,13 @@ small : List Row → Bool
 small [] = true
 small (r ∷ rows) = leb (r .number) 15 && small rows
 
-both : (a b : Bool) → T (a && b) → T a × T b
-both true b t = (tt, t)
-both false b t = absurd t
-
 verdict-small : (rows : List Row) → T (small rows) → verdict rows .number ≤ 15
 unfolding small
 verdict-small [] _ = omega arith
 verdict-small (r ∷ rows) all = go (r .holds) (verdict-small rows (parts .1))
   where
     parts : T (leb (r .number) 15) × T (small rows)
-    parts = both (leb (r .number) 15) (small rows) all
+    parts = and-yes (leb (r .number) 15) (small rows) all
 
     go : (b : Bool) → verdict rows .number ≤ 15 → pick b (told r) (verdict rows) .number ≤ 15
     go true later = leb→le (r .number) 15 (parts .0)
