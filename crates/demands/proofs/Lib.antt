@@ -1,7 +1,9 @@
 -- The demands of this drive.
 pub mod Gates
 pub mod Places
-pub mod Steps
+pub mod Causes
+pub mod Shown
+pub mod Remembers
 pub mod Ticks
 pub mod Lawful
 pub mod Clauses
@@ -10,6 +12,7 @@ pub mod OneReply
 pub mod Computes
 pub mod Bench
 pub mod Silence
+pub mod Liars
 mod Grown
 pub mod Stream
 pub mod Errors
