@@ -8,7 +8,6 @@ pub mod Ticks
 pub mod Lawful
 pub mod Clauses
 pub mod Refused
-pub mod OneReply
 pub mod Computes
 pub mod Bench
 pub mod Silence
