@@ -1,12 +1,9 @@
 -- The causes that the onlooker finds in a tick and in the samples are among those that the drive finds: each is a flag of its own there.
-use mathlib.Core.Path.{_≡_}
-use mathlib.Core.Bool.{Bool, false, not, _&&_, _||_}
-use mathlib.Core.List.{List}
-use Prim.Native.Nat.{ℕ}
-use lib.Dec.{T, eqb, ltb}
+use mathlib.Core.Bool.{Bool, _&&_, _||_}
+use lib.Dec.{T, eqb}
 use mir.Facts.{and-yes, eqb-yes, yes-and}
-use Rattle.history.proofs.Bools.{or-left, or-right, or-cases, contrary}
-use Rattle.settings.specs.Settings.{FaultEnable, VdcOvLevel, VdcLvLevel, CriticalOvLevel, Tshutdown}
+use Rattle.history.proofs.Bools.{or-left, or-right, or-cases}
+use Rattle.settings.specs.Settings.{FaultEnable}
 use Rattle.drive.specs.Flags.{bit, live, any}
 use Rattle.drive.specs.Causes.{causes}
 use Rattle.drive.specs.Answer.{alive}
@@ -15,7 +12,7 @@ use Rattle.drive.specs.declared.Drive.{Drive}
 use Rattle.drive.specs.declared.flags.Flags.{Flags}
 use Rattle.fields.specs.declared.Tick.{Tick}
 use Rattle.reached.specs.Reached.{Reached}
-use Rattle.reached.proofs.Flags.{shows-causes, stays-with-causes, first-eight}
+use Rattle.reached.proofs.Flags.{shows-causes, first-eight}
 use Rattle.demands.specs.Supervised.{causeOf, deadCauseOf}
 
 -- the flags that he knows of, among the nine
@@ -24,14 +21,14 @@ known : (kill critical over under flux heat lock timeout hall : Bool)
     → T (kill || critical || over || under || flux || heat || lock || timeout || hall)
 known kill critical over under flux heat lock timeout hall told =
     or-cases hall (kill || critical || over || under || heat) told
-    (λ h. search (or-left, or-right, h) depth 12)
+    (λ h. search (or-left, or-right) depth 12)
     (λ k. or-cases (kill || critical || over || under) heat k
     (λ l. or-cases (kill || critical || over) under l
     (λ m. or-cases (kill || critical) over m
-    (λ n. search (or-left, n) depth 12)
-    (λ o. search (or-left, or-right, o) depth 12))
-    (λ u. search (or-left, or-right, u) depth 12))
-    (λ h. search (or-left, or-right, h) depth 12))
+    (λ n. search (or-left, or-right) depth 12)
+    (λ o. search (or-left, or-right) depth 12))
+    (λ u. search (or-left, or-right) depth 12))
+    (λ h. search (or-left, or-right) depth 12))
 
 module _ (d : Drive) (t : Tick) where
   -- what he finds blocks an exit from FAULT ..

@@ -6,11 +6,10 @@ use Prim.Native.Nat.{ℕ, _≤_, zero-le}
 use lib.Dec.{T, eqb, not-T}
 use lib.Ieee.Bits.{is-false}
 use mir.Facts.{and-yes, eqb-yes, ltb-no}
-use Rattle.numbers.specs.Choose.{pick}
 use Rattle.numbers.proofs.Choices.{by-test, decide}
 use Rattle.history.specs.Log.{log}
 use Rattle.history.specs.Onlooker.{Memory, isStop, isStart, isFault, Place, Asked, other, heard, remember, noted, note, notes}
-use Rattle.history.specs.History.{Demand3, undisturbed}
+use Rattle.history.specs.History.{Demand3}
 use Rattle.history.specs.Laws.{Step, Lawful}
 use Rattle.history.proofs.Bools.{or-left, contrary, joins}
 use Rattle.history.proofs.Steps
@@ -41,7 +40,7 @@ use Rattle.reached.proofs.Verdicts.{passed, accepted-state}
 use Rattle.reached.proofs.Flags.{stays-with-hall}
 use Rattle.reached.proofs.Keeps.{reached-power-up, cycled-reached, call-keeps}
 use Rattle.reached.proofs.Corollaries.{disarmed-in-fault, low-excludes-high}
-use Rattle.demands.specs.Supervised.{words, deadCauseOf}
+use Rattle.demands.specs.Supervised.{words}
 use Rattle.demands.proofs.Places.{place, loads-outside-fault, leaves-none}
 use Rattle.demands.proofs.Shown.{inside, gates-ask, shows-running, shows-no-fault, shows-no-dead}
 use Rattle.demands.proofs.Remembers.{Remembers, remembers-power-up, afterRefused, refused-remembers, load-remembers, cycle-remembers, tick-remembers}

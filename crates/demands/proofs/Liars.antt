@@ -4,7 +4,7 @@ use mathlib.Core.Path.{_≡_, refl}
 use mathlib.Core.Bool.{Bool, true, false, not, _&&_}
 use mathlib.Core.List.{List, [], _∷_, _++_, reverse}
 use Prim.Native.Nat.{ℕ}
-use lib.IntN.{ℤ, pos}
+use lib.IntN.{pos}
 use Rattle.numbers.specs.Choose.{pick}
 use Rattle.history.specs.Log.{Machine, stateAfter, log}
 use Rattle.history.specs.Onlooker.{memoryOf, notes}
@@ -12,7 +12,6 @@ use Rattle.history.specs.History.{Seen, lowSince, retrySince, everLoaded, permi
 use Rattle.states.specs.States.{is}
 use Rattle.states.specs.declared.State.{State}
 use Rattle.states.specs.declared.State.the-variants.{Idle, Stop, MotorRun}
-use Rattle.fields.specs.declared.Cycle.{Cycle}
 use Rattle.fields.specs.declared.Tick.{Tick}
 use Rattle.drive.specs.Flags.{none}
 use Rattle.drive.specs.Answer.{gateOf, reply as replied}
@@ -22,7 +21,7 @@ use Rattle.drive.specs.declared.Drive.{Drive}
 use Rattle.drive.specs.declared.answer.Answer.{Answer}
 use Rattle.drive.specs.declared.answer.Reply.{Reply}
 use Rattle.demands.proofs.Computes.{computes}
-use Rattle.demands.specs.Calls.{settingsWith, loaded, loadedInMode1, shows, tickWith, low, high, over, clear, ready, started}
+use Rattle.demands.specs.Calls.{loaded, loadedInMode1, shows, tickWith, low, high, over, clear, ready, started}
 use Rattle.demands.specs.Supervised.{words}
 
 -- a drive is what it replies in each state

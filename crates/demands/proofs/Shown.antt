@@ -1,16 +1,16 @@
 -- What the drive holds inside, and what its answers show of it: where the gates charge or drive, it turns; where it turns, the state shown is
 -- a starting or running one, the live word is 0, and no pair of dead samples stands.
-use mathlib.Core.Path.{_≡_, subst}
-use mathlib.Core.Bool.{Bool, true, false, not, _&&_, _||_}
+use mathlib.Core.Path.{subst}
+use mathlib.Core.Bool.{not, _&&_}
 use Prim.Native.Nat.{ℕ}
-use lib.Dec.{T, eqb}
+use lib.Dec.{T}
 use mir.Facts.{and-yes, yes-and}
 use Rattle.history.specs.Onlooker.{isStartOrRun}
 use Rattle.history.specs.Laws.{Inside}
 use Rattle.history.proofs.Bools.{contrary}
 use Rattle.states.specs.States.{is, turning}
-use Rattle.drive.specs.Flags.{any, word}
-use Rattle.drive.specs.Answer.{alive, gate, answer}
+use Rattle.drive.specs.Flags.{any}
+use Rattle.drive.specs.Answer.{alive, answer}
 use Rattle.drive.specs.declared.Drive.{Drive}
 use Rattle.reached.specs.Reached.{Reached}
 use Rattle.demands.specs.Supervised.{words, deadCauseOf}

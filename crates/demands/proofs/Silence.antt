@@ -1,10 +1,10 @@
 -- The three runs of the specs do what they say: what is short is computed, and the ticks of the wait are all alike.
-use mathlib.Core.Path.{_≡_, refl, sym, ap, _∙_}
-use mathlib.Core.Bool.{Bool, true, false}
+use mathlib.Core.Path.{_≡_, refl, ap, _∙_}
+use mathlib.Core.Bool.{true, false}
 use mathlib.Core.List.{List, [], _∷_, _++_, append-nil}
 use Prim.Native.Nat.{ℕ, zero, suc, _+_, _≤_, min}
 use native.Mathlib.Omega.{arith}
-use lib.Dec.{T, leb, lit≤}
+use lib.Dec.{leb, lit≤}
 use lib.IntN.{pos, negsuc}
 use lib.ListN.{length, replicate, length-append, length-replicate}
 use borrow.Author.Tests.{lt-leb}
@@ -20,7 +20,7 @@ use Rattle.drive.specs.Flags.{none}
 use Rattle.drive.specs.declared.Drive.{Drive}
 use Rattle.reached.specs.Calls.{machine}
 use Rattle.demands.proofs.Computes.{computes}
-use Rattle.demands.specs.Calls.{settingsWith, high, clear, times}
+use Rattle.demands.specs.Calls.{settingsWith, high, clear}
 use Rattle.demands.specs.Silence.{noted, turned, tripped, waited, triedAgain, foremansPage, held}
 use Rattle.demands.specs.Supervised.{words}
 

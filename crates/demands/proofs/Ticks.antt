@@ -1,13 +1,12 @@
 -- An accepted tick obeys the laws of demand 3, whichever way its move comes about.
-use mathlib.Core.Path.{_≡_, refl, subst}
+use mathlib.Core.Path.{_≡_, refl}
 use mathlib.Core.Bool.{Bool, true, false, not, _&&_, _||_}
 use mathlib.Core.List.{List}
 use Prim.Native.Nat.{ℕ, suc, _≤_, zero-le}
 use native.Mathlib.Omega.{arith}
 use lib.Dec.{T, leb, le→leb}
 use mir.Facts.{and-yes, yes-and}
-use Rattle.numbers.specs.Count.{up}
-use Rattle.history.specs.Onlooker.{Memory, isFault, isStartOrRun, note}
+use Rattle.history.specs.Onlooker.{Memory, isFault, note}
 use Rattle.history.specs.History.{Seen, undisturbed}
 use Rattle.history.specs.Laws.{Step}
 use Rattle.history.proofs.Bools.{contrary, never, joins}

@@ -2,14 +2,13 @@
 -- A run is written in the order in which its calls are made, the first first.
 use Prim.Native.Nat.{ℕ, zero, suc}
 use mathlib.Core.List.{List, [], _∷_, _++_, reverse}
-use lib.IntN.{ℤ, pos}
+use lib.IntN.{pos}
 use Rattle.history.specs.Log.{stateAfter}
 use Rattle.drive.specs.Answer.{answer}
 use Rattle.drive.specs.Calls.{powerUp}
 use Rattle.drive.specs.AnyCall.{Call, loads, cycles, ticks}
 use Rattle.drive.specs.declared.Drive.{Drive}
 use Rattle.drive.specs.declared.answer.Answer.{Answer}
-use Rattle.fields.specs.declared.Tick.{Tick}
 use Rattle.reached.specs.Calls.{machine}
 
 -- the settings of the paper's example, with this ControlMode and HallAngleOffset

@@ -1,5 +1,5 @@
 -- Tests joined by "and", "or" and "not", taken apart and put together, where the kit has no law of its own (mir.Facts).
-use mathlib.Core.Bool.{Bool, true, false, not, _&&_, _||_, cond}
+use mathlib.Core.Bool.{Bool, true, false, not, _||_, cond}
 use lib.Dec.{T, T-not}
 use mir.Facts.{yes-and}
 

@@ -1,13 +1,12 @@
 -- Demand 3 holds of every supervisor that obeys the laws, because what is inside never claims more than the history bears out.
-use Prim.Native.Nat.{ℕ}
 use mathlib.Core.Path.{_≡_, refl, ap, sym, subst, _∙_}
-use mathlib.Core.Bool.{Bool, true, not, _&&_, _||_}
+use mathlib.Core.Bool.{not, _&&_, _||_}
 use mathlib.Core.List.{List, [], _∷_}
 use lib.Dec.{T, le→leb}
 use mir.Facts.{and-yes}
 use Rattle.history.specs.Log.{Machine, stateAfter, entry, log}
 use Rattle.history.specs.Onlooker.{Words, Memory, memoryOf, note, notes}
-use Rattle.history.specs.History.{Seen, retried, noLoadNorStart, between, lowSince, retrySince, everLoaded, permitted, disturbed, undisturbed, startTaken, beforeStart, gatesRule, exitRule, counted, retries, retryRule, holds, Demand3}
+use Rattle.history.specs.History.{Seen, retried, noLoadNorStart, between, lowSince, retrySince, everLoaded, permitted, disturbed, undisturbed, startTaken, beforeStart, gatesRule, counted, retries, retryRule, holds, Demand3}
 use Rattle.history.specs.Laws.{Inside, asleep, Step, Lawful}
 use Rattle.history.proofs.Bools.{or-cases, or-not, contrary, cond-cases, cases, joins}
 

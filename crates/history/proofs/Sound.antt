@@ -3,12 +3,12 @@
 use Prim.Native.Nat.{ℕ, suc, _≤_, _<_, zero-le}
 use native.Mathlib.Omega.{arith}
 use mathlib.Core.Path.{_≡_, refl}
-use mathlib.Core.Bool.{Bool, true, false, not, _&&_}
+use mathlib.Core.Bool.{Bool, true, false, not}
 use mathlib.Core.List.{List}
 use lib.Dec.{T, not-T, ltb, leb}
 use borrow.Author.Tests.{ltb-true, leb-true, le-leb}
 use Rattle.history.specs.Log.{entry, log}
-use Rattle.history.specs.Onlooker.{Place, atStop, atStart, atFault, elsewhere, Memory, remember, note, notes}
+use Rattle.history.specs.Onlooker.{atStop, atStart, atFault, elsewhere, Memory, remember, note, notes}
 use Rattle.history.specs.History.{Demand3}
 use Rattle.history.specs.Laws.{Inside, Step, Lawful}
 use Rattle.history.proofs.Bools.{joins}

@@ -1,8 +1,8 @@
 -- The calls of a supervisor that is built as document 01 says, each kind with the laws that it obeys: a call that is none of the others, a
 -- load, a start, a clear that ends a trip, and a timed retry.
 use mathlib.Core.Path.{_≡_}
-use mathlib.Core.Bool.{Bool, true, false, not, _&&_, _||_}
-use Prim.Native.Nat.{ℕ, suc, _≤_}
+use mathlib.Core.Bool.{not, _&&_, _||_}
+use Prim.Native.Nat.{suc, _≤_}
 use lib.Dec.{T}
 use lib.Ieee.Bits.{is-true, is-false}
 use mir.Facts.{and-yes}
