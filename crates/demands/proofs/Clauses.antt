@@ -60,15 +60,15 @@ module _ (call : Call) (earlier : List Call) where
         let before = beforeStart (now ∷ past) in and-yes (everLoaded before) (lowSince before || retrySince before) (turning .2) .1
 
   -- "At every exit from FAULT no live cause stood", and it was a clear or a timed retry
-  exits : T (now .exited) → T (not (now .causeStood)) × T (now .clear || now .timed)
+  exits : T (now .exited) → T (not (now .causeStood)) × T (now .clear || now .due)
   exits exited =
-      let rule : Bool = not (now .causeStood) && (now .clear || now .timed) in
-      and-yes (not (now .causeStood)) (now .clear || now .timed) (so (now .exited) rule (rules .1) exited)
+      let rule : Bool = not (now .causeStood) && (now .clear || now .due) in
+      and-yes (not (now .causeStood)) (now .clear || now .due) (so (now .exited) rule (rules .1) exited)
 
   pub no-cause-at-exit : T (now .exited) → T (not (now .causeStood))
   no-cause-at-exit exited = exits exited .0
 
-  pub clear-or-timed-retry : T (now .exited) → T (now .clear || now .timed)
+  pub clear-or-timed-retry : T (now .exited) → T (now .clear || now .due)
   clear-or-timed-retry exited = exits exited .1
 
   -- "The timed retries since the later of the last accepted load and the last clear that ended a trip never exceed the loaded limit."

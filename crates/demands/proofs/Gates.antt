@@ -13,7 +13,7 @@ use Rattle.states.specs.declared.State.{State}
 use Rattle.states.specs.declared.State.the-variants.{Idle, Stop, OffsetCal, BtsCharge, MotorRun, Fault, CatchSpin, Parking, OpenLoop, AngleSensing}
 
 abbrev charges-or-drives : ℕ → Bool
-charges-or-drives n = eqb n 1 || eqb n 2
+charges-or-drives n = not (eqb n 0 || eqb n 3)
 
 by-state : (state : State) → charges-or-drives (gateOf state) ≡ turning state
 by-state Idle = refl

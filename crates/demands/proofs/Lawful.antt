@@ -8,13 +8,13 @@ use lib.Ieee.Bits.{is-false}
 use mir.Facts.{and-yes, eqb-yes, ltb-no}
 use Rattle.numbers.proofs.Choices.{by-test, decide}
 use Rattle.history.specs.Log.{log}
-use Rattle.history.specs.Onlooker.{Memory, isStop, isStart, isFault, Place, Asked, other, heard, remember, noted, note, notes}
+use Rattle.history.specs.Onlooker.{Memory, Asked, neither, heard, remember, noted, note, notes}
 use Rattle.history.specs.History.{Demand3}
 use Rattle.history.specs.Laws.{Step, Lawful}
 use Rattle.history.proofs.Bools.{or-left, contrary, joins}
 use Rattle.history.proofs.Steps
 use Rattle.history.proofs.Demand3.{demand3}
-use Rattle.states.specs.States.{is, turning}
+use Rattle.states.specs.States.{numberOf, is, turning}
 use Rattle.settings.specs.Settings.{FaultEnable, RetryLimit}
 use Rattle.drive.specs.Flags.{any}
 use Rattle.drive.specs.Command.{low}
@@ -40,12 +40,11 @@ use Rattle.reached.proofs.Verdicts.{passed, accepted-state}
 use Rattle.reached.proofs.Flags.{stays-with-hall}
 use Rattle.reached.proofs.Keeps.{reached-power-up, cycled-reached, call-keeps}
 use Rattle.reached.proofs.Corollaries.{disarmed-in-fault, low-excludes-high}
-use Rattle.demands.specs.Supervised.{words}
-use Rattle.demands.proofs.Places.{place, loads-outside-fault, leaves-none}
+use Rattle.demands.specs.Supervised.{words, DriveDemand3}
 use Rattle.demands.proofs.Shown.{inside, gates-ask, shows-running, shows-no-fault, shows-no-dead}
 use Rattle.demands.proofs.Remembers.{Remembers, remembers-power-up, afterRefused, refused-remembers, load-remembers, cycle-remembers, tick-remembers}
 use Rattle.demands.proofs.Ticks
-use Rattle.demands.proofs.Ticks.{fails-left, fails-right}
+use Rattle.demands.proofs.Tests.{fails-left, fails-right, never-both, idle-or-stop}
 
 -- ---- a call in a reached state, with an onlooker who remembers what is so
 
@@ -63,11 +62,11 @@ settles : (P : Reply → Type 0) (v : Verdict) (next d : Drive)
 settles P v next d accepted refused = by-test P (eqb (v .number) 0) (λ t. accepted (eqb-yes t)) (λ t. refused (is-false (eqb (v .number) 0) t))
 
 same-memory :
-    (m : Memory) {loaded : List ℕ} {shown : Place} {dead : ℕ}
-    → m .loaded ≡ loaded
+    (m : Memory) {numbers : List ℕ} {shown : ℕ} {dead : ℕ}
+    → m .numbers ≡ numbers
     → m .shown ≡ shown
     → m .dead ≡ dead
-    → record { loaded = loaded; shown = shown; waited = m .waited; dead = dead } ≡ m
+    → record { numbers = numbers; shown = shown; waited = m .waited; dead = dead } ≡ m
 same-memory m a b c = rw (← a, ← b, ← c)
 
 not-both : (a b : Bool) → (T a → T (not b)) → T (not (a && b))
@@ -76,7 +75,7 @@ not-both false b f = tt
 
 module _ (d : Drive) (r : Reached d) (memory : Memory) (knows : Remembers d memory) where
   -- the retries used are within the limit that he remembers
-  within : d .retries ≤ RetryLimit (memory .loaded)
+  within : d .retries ≤ RetryLimit (memory .numbers)
   within =
       decide (is 0 (d .state))
       (λ idle. rw (r .idle idle) zero-le)
@@ -105,15 +104,16 @@ module _ (d : Drive) (r : Reached d) (memory : Memory) (knows : Remembers d memo
         → Reached stood
         → (T (any (alive d)) → T (any (alive stood)))
         → Remembers stood now
-        → now .loaded ≡ memory .loaded
-        → Step (inside d) (noted words memory other now (answer number at stood)) (inside stood)
+        → now .numbers ≡ memory .numbers
+        → Step (inside d) (noted words memory neither now (answer number at stood)) (inside stood)
     unfolding answer
     stands number at now r-now more knows-now same =
-        Steps.passes-by (inside d) (noted words memory other now (answer number at stood)) (inside stood) (gates-ask number at stood)
+        Steps.passes-by (inside d) (noted words memory neither now (answer number at stood)) (inside stood) (gates-ask number at stood)
         (rw same within)
         tt
-        (fails-right (isStart (now .shown) && isStop (memory .shown)))
-        (rw (knows .shown, knows-now .shown) (leaves-none (place (d .state))))
+        (fails-right (eqb (now .shown) 3 && eqb (memory .shown) 1) false tt)
+        (rw (knows .shown, knows-now .shown) (never-both (turning (d .state))))
+        (rw (knows .shown, knows-now .shown) (never-both (is 5 (d .state))))
         (λ is. is)
         (or-left (d .armed) false)
         (λ turns.
@@ -122,18 +122,18 @@ module _ (d : Drive) (r : Reached d) (memory : Memory) (knows : Remembers d memo
         let no-fault = shows-no-fault number at stood turns in
         let no-dead = shows-no-dead number at stood turns r-now in
         let was = contrary (any (alive d)) (any (alive stood)) more dark in
-        rw (knows-now .shown, knows-now .loaded (turning-is (d .state) runs .not-idle), knows-now .dead) (search joins))
+        rw (knows-now .shown, knows-now .loaded (turning-is (d .state) runs .not-idle), knows-now .dead) (search joins depth 9))
         refl
 
   module _ (call : Call) (number at : ℕ) (not-0 : eqb number 0 ≡ false) where
     abbrev after : Memory
     after = afterRefused memory call number at d
 
-    heard-nothing : heard words (record { call = call; answer = answer number at d }) ≡ other
+    heard-nothing : heard words (record { call = call; answer = answer number at d }) ≡ neither
     unfolding answer
     heard-nothing = rw not-0
 
-    loaded-nothing : after .loaded ≡ memory .loaded
+    loaded-nothing : after .numbers ≡ memory .numbers
     unfolding answer
     loaded-nothing = rw not-0
 
@@ -155,7 +155,7 @@ module _ (d : Drive) (r : Reached d) (memory : Memory) (knows : Remembers d memo
         obeys =
             Steps.loads (inside d) _ (inside (fresh Stop numbers)) (gates-ask 0 0 (fresh Stop numbers)) zero-le
             tt tt
-            (rw (knows .shown) (fails-left (isFault (place (d .state))) true (loads-outside-fault (d .state) admitted)))
+            (rw (knows .shown) (fails-left (is 5 (d .state)) true (idle-or-stop (numberOf (d .state)) admitted)))
             tt tt refl;
       }
 
@@ -222,5 +222,5 @@ lawful =
     }
 
 -- Demand 3 of this drive, for every list of calls from power-up, stated of the log of calls and answers.
-pub drive-demand3 : (calls : List Call) → Demand3 (notes words (log machine calls))
+pub drive-demand3 : DriveDemand3
 drive-demand3 = demand3 machine words lawful

@@ -1,6 +1,6 @@
 -- The demands of this drive.
 pub mod Gates
-pub mod Places
+pub mod Tests
 pub mod Causes
 pub mod Shown
 pub mod Remembers

@@ -6,8 +6,8 @@ use Prim.Native.Nat.{ℕ, _≤_, zero-le}
 use native.Mathlib.Omega.{arith}
 use lib.Dec.{T, eqb}
 use lib.Ieee.Bits.{is-true}
-use Rattle.history.specs.Onlooker.{Memory, isFault, nothingYet, remember}
-use Rattle.states.specs.States.{is}
+use Rattle.history.specs.Onlooker.{Memory, nothingYet, remember}
+use Rattle.states.specs.States.{numberOf, is}
 use Rattle.drive.specs.Answer.{answer}
 use Rattle.drive.specs.Calls.{powerUp, fresh, cycled, ticked, moved, watch, raised, arms, chosen}
 use Rattle.drive.specs.AnyCall.{Call, loads, cycles, ticks}
@@ -19,12 +19,11 @@ use Rattle.moves.specs.declared.Move.the-variants.{Stay, Enter, Measure, Clear,
 use Rattle.states.specs.declared.State.the-variants.{Stop}
 use Rattle.reached.proofs.Hall.{dead-by-pattern}
 use Rattle.demands.specs.Supervised.{words}
-use Rattle.demands.proofs.Places.{place, fault-place}
 
 pub record Remembers (d : Drive) (memory : Memory) : Type 0 where
   -- in IDLE nothing is loaded, and nothing is asked of what is
-  pub loaded : T (not (is 0 (d .state))) → memory .loaded ≡ d .settings
-  pub shown : memory .shown ≡ place (d .state)
+  pub loaded : T (not (is 0 (d .state))) → memory .numbers ≡ d .settings
+  pub shown : memory .shown ≡ numberOf (d .state)
   -- the drive stops counting at 65535; he does not
   pub waited : T (is 5 (d .state)) → d .ticks ≤ memory .waited
   pub dead : memory .dead ≡ d .hall .dead
@@ -41,8 +40,8 @@ afterAccepted memory call next = remember words memory (record { call = call; an
 
 module _ (d : Drive) (memory : Memory) (knows : Remembers d memory) where
   -- in FAULT the last answer showed it
-  in-fault : T (is 5 (d .state)) → isFault (memory .shown) ≡ true
-  in-fault fault = rw (knows .shown, ← fault-place (d .state)) (is-true (is 5 (d .state)) fault)
+  in-fault : T (is 5 (d .state)) → eqb (memory .shown) 5 ≡ true
+  in-fault fault = rw (knows .shown) (is-true (is 5 (d .state)) fault)
 
   pub refused-remembers : (call : Call) (number at : ℕ) → eqb number 0 ≡ false → Remembers d (afterRefused memory call number at d)
   unfolding answer

@@ -5,7 +5,6 @@ use mathlib.Core.Bool.{not, _&&_}
 use Prim.Native.Nat.{ℕ}
 use lib.Dec.{T}
 use mir.Facts.{and-yes, yes-and}
-use Rattle.history.specs.Onlooker.{isStartOrRun}
 use Rattle.history.specs.Laws.{Inside}
 use Rattle.history.proofs.Bools.{contrary}
 use Rattle.states.specs.States.{is, turning}
@@ -15,7 +14,6 @@ use Rattle.drive.specs.declared.Drive.{Drive}
 use Rattle.reached.specs.Reached.{Reached}
 use Rattle.demands.specs.Supervised.{words, deadCauseOf}
 use Rattle.demands.proofs.Gates.{gates-by, no-word}
-use Rattle.demands.proofs.Places.{place, turning-place}
 use Rattle.demands.proofs.Causes.{dead-shows}
 
 abbrev pub inside : Drive → Inside
@@ -38,9 +36,9 @@ module _ (number at : ℕ) (d : Drive) where
     dark : T (not (any (alive d)))
     dark = and-yes (turning (d .state)) (not (any (alive d))) turns .1
 
-    pub shows-running : T (isStartOrRun (words .place (answer number at d)))
+    pub shows-running : T (words .isRunning (words .state (answer number at d)))
     unfolding answer
-    shows-running = rw (← turning-place (d .state)) (and-yes (turning (d .state)) (not (any (alive d))) turns .0)
+    shows-running = and-yes (turning (d .state)) (not (any (alive d))) turns .0
 
     pub shows-no-fault : T (not (words .faultStands (answer number at d)))
     unfolding answer

@@ -9,7 +9,7 @@ use lib.IntN.{pos, negsuc}
 use lib.ListN.{length, replicate, length-append, length-replicate}
 use borrow.Author.Tests.{lt-leb}
 use Rattle.history.specs.Log.{stateAfter, entry, log}
-use Rattle.history.specs.Onlooker.{atFault, Memory, memoryOf, remember, note, notes}
+use Rattle.history.specs.Onlooker.{Memory, memoryOf, remember, note, notes}
 use Rattle.history.specs.History.{Seen}
 use Rattle.history.specs.Page.{Mark, load, low, cause, retry, start, turns, stands, page, turning}
 use Rattle.numbers.specs.Count.{up}
@@ -59,7 +59,7 @@ faulted n =
     }
 
 abbrev recalled : ℕ → Memory
-recalled n = record { loaded = settingsWith 1 0; shown = atFault; waited = n; dead = 0 }
+recalled n = record { numbers = settingsWith 1 0; shown = 5; waited = n; dead = 0 }
 
 -- his note of each tick of the wait: a live fault stands, and nothing happens
 abbrev waiting : Seen
@@ -68,9 +68,10 @@ waiting =
       loaded = false;
       low = false;
       started = false;
+      began = false;
       exited = false;
       clear = false;
-      timed = false;
+      due = false;
       causeStood = false;
       limit = 2;
       faultStands = true;

@@ -5,14 +5,15 @@ use mathlib.Core.List.{List}
 use Prim.Native.Nat.{ℕ, suc, _≤_, zero-le}
 use native.Mathlib.Omega.{arith}
 use lib.Dec.{T, leb, le→leb}
+use lib.Ieee.Bits.{is-true}
 use mir.Facts.{and-yes, yes-and}
-use Rattle.history.specs.Onlooker.{Memory, isFault, note}
+use Rattle.history.specs.Onlooker.{Memory, note}
 use Rattle.history.specs.History.{Seen, undisturbed}
 use Rattle.history.specs.Laws.{Step}
 use Rattle.history.proofs.Bools.{contrary, never, joins}
 use Rattle.history.proofs.Steps
 use Rattle.hall.specs.declared.Hall.{Hall}
-use Rattle.states.specs.States.{is, turning}
+use Rattle.states.specs.States.{numberOf, is, turning}
 use Rattle.settings.specs.Settings.{FaultEnable, RetryLimit, mode1}
 use Rattle.drive.specs.Flags.{any}
 use Rattle.drive.specs.Command.{low, high}
@@ -31,30 +32,11 @@ use Rattle.moves.specs.declared.Grounds.{Grounds}
 use Rattle.moves.specs.declared.Move.{Move}
 use Rattle.moves.specs.declared.Move.the-variants.{Stay, Enter, Measure, Clear, Retry}
 use Rattle.reached.proofs.Flags.{stays-with-causes}
+use Rattle.reached.proofs.States.{turns as turning-is}
 use Rattle.demands.specs.Supervised.{words, causeOf, deadCauseOf}
-use Rattle.demands.proofs.Places.{place, turning-place, run-place, run-leaves-none, leaves-none, starts-none}
+use Rattle.demands.proofs.Tests.{fails-left, fails-right, never-both, arming, unarmed, one-state}
 use Rattle.demands.proofs.Causes.{found-blocks, found-trips}
 use Rattle.demands.proofs.Shown.{inside, gates-ask, shows-running, shows-no-fault}
-
--- ---- small laws on tests
-
--- only a low arms, whatever else has to hold for it
-arming : (armed low other : Bool) → T (armed || low && other) → T (armed || low)
-arming true low other t = tt
-arming false true other t = tt
-arming false false other t = absurd t
-
-pub fails-right : (a : Bool) → T (not (a && false))
-fails-right true = tt
-fails-right false = tt
-
-pub fails-left : (a b : Bool) → T (not a) → T (not (a && b))
-fails-left true b t = absurd t
-fails-left false b t = tt
-
-unarmed : (armed low : Bool) → T (not armed) → T (not (armed || low && false))
-unarmed true low t = absurd t
-unarmed false low t = fails-right low
 
 -- ---- a tick in a state, of a drive whose other fields are anything, with an onlooker who remembers what is so
 
@@ -76,7 +58,7 @@ module _ (settings : List ℕ) (hall : Hall) (flags : Flags) (cycles count : ℕ
       }
 
   abbrev pub memory : State → Memory
-  memory state = record { loaded = settings; shown = place state; waited = waited; dead = hall .dead }
+  memory state = record { numbers = settings; shown = numberOf state; waited = waited; dead = hall .dead }
 
   abbrev tripped : State → Bool
   tripped state = alight (at state) (raised (at state) t)
@@ -126,12 +108,13 @@ module _ (settings : List ℕ) (hall : Hall) (flags : Flags) (cycles count : ℕ
       → (T (after .armed) → T (armed || low settings t))
       → T (not (turning (after .state)))
       → used ≤ RetryLimit settings
-      → after .settings ≡ settings
       → after .retries ≡ used
       → Obeys state after
   unfolding answer
-  rests state after loaded no-start no-exit arms still within same-settings same =
-      Steps.passes-by (inside (at state)) (noteOf state after) (inside after) (gates-ask 0 0 after) (rw same within) tt no-start no-exit
+  rests state after loaded no-start no-exit arms still within same =
+      Steps.passes-by (inside (at state)) (noteOf state after) (inside after) (gates-ask 0 0 after) (rw same within) tt no-start
+      (fails-left (turning (after .state)) (not (turning state)) still)
+      no-exit
       (λ now. loaded)
       arms
       (λ now. never (turning (after .state)) still (and-yes (turning (after .state)) (not (any (alive after))) now .0))
@@ -154,7 +137,7 @@ module _ (settings : List ℕ) (hall : Hall) (flags : Flags) (cycles count : ℕ
     by-move state Stay loaded fault late apart (stays quiet calm) =
         let after = next state Stay in
         Steps.passes-by (inside (at state)) (noteOf state after) (inside after) (gates-ask 0 0 after) used-few
-        tt (starts-none (place state) (high settings t)) (leaves-none (place state))
+        tt (one-state (numberOf state) (high settings t)) (never-both (turning state)) (never-both (is 5 state))
         (λ now. now)
         (arming armed (low settings t) (not (is 5 state)))
         (λ now.
@@ -164,31 +147,33 @@ module _ (settings : List ℕ) (hall : Hall) (flags : Flags) (cycles count : ℕ
         (turned-before state runs dark))
         refl
     by-move state (Enter Fault) loaded fault late apart (trips free trip) =
-        rests state (next state (Enter Fault)) loaded tt (fails-right (isFault (place state)))
+        rests state (next state (Enter Fault)) loaded tt (fails-right (is 5 state) false tt)
         (λ now. arming armed (low settings t) (not (is 5 state)) (and-yes (arms (at state) t) false now .0))
-        tt used-few refl refl
+        tt used-few refl
     by-move state (Enter Stop) loaded fault late apart (stops runs is-low calm) =
         rests state (next state (Enter Stop)) loaded tt
-        (fails-left (isFault (place state)) true (run-leaves-none (place state) (rw (← turning-place state) runs)))
+        (fails-left (is 5 state) true (turning-is state runs .not-fault))
         (λ now. arming armed (low settings t) (not (is 5 state)) (and-yes (arms (at state) t) true now .0))
-        tt used-few refl refl
+        tt used-few refl
     by-move Stop (Enter OffsetCal) loaded fault late apart (calibrates unmeasured calm) =
         rests Stop (next Stop (Enter OffsetCal)) tt tt tt
         (λ now. arming armed (low settings t) true (and-yes (arms (at Stop) t) true now .0))
-        tt used-few refl refl
+        tt used-few refl
     by-move Stop (Enter BtsCharge) loaded fault late apart (starts measured is-armed is-high calm) =
         let after = next Stop (Enter BtsCharge) in
         Steps.starts (inside (at Stop)) (noteOf Stop after) (inside after) (gates-ask 0 0 after) used-few
         tt is-high tt tt is-armed
-        (fails-right (arms (at Stop) t))
+        (fails-right (arms (at Stop) t) false tt)
         (undisturbed-by Stop after (apart is-high) calm)
         refl
     by-move state (Enter onto) loaded fault late apart (goes-on runs onward no-low calm) =
         let after = next state (Enter onto) in
         Steps.passes-by (inside (at state)) (noteOf state after) (inside after) (gates-ask 0 0 after) used-few
         tt
-        (rw (run-place onto onward) tt)
-        (fails-left (isFault (place state)) (not (isFault (place onto))) (run-leaves-none (place state) (rw (← turning-place state) runs)))
+        (fails-left (is 3 onto && is 1 state) (high settings t)
+        (fails-left (is 3 onto) (is 1 state) (and-yes (turning onto) (not (is 3 onto)) onward .1)))
+        (fails-right (turning onto) (not (turning state)) (rw (is-true (turning state) runs) tt))
+        (fails-left (is 5 state) (not (is 5 onto)) (turning-is state runs .not-fault))
         (λ now. loaded)
         (λ now. arming armed (low settings t) (not (is 5 state)) (and-yes (arms (at state) t) (not (is 3 onto || is 5 onto)) now .0))
         (λ now.
@@ -197,18 +182,18 @@ module _ (settings : List ℕ) (hall : Hall) (flags : Flags) (cycles count : ℕ
         (turned-before state runs calm))
         refl
     by-move OffsetCal Measure loaded fault late apart (measures done calm) =
-        rests OffsetCal (next OffsetCal Measure) tt tt tt (arming armed (low settings t) true) tt used-few refl refl
+        rests OffsetCal (next OffsetCal Measure) tt tt tt (arming armed (low settings t) true) tt used-few refl
     by-move Fault Clear loaded fault late apart (clears free clear) =
         let after = next Fault Clear in
         Steps.clears (inside (at Fault)) (noteOf Fault after) (inside after) (gates-ask 0 0 after) zero-le
-        tt tt tt (no-cause free) (λ now. tt) tt clear
+        tt tt tt tt (no-cause free) (λ now. tt) tt clear
         (unarmed armed (low settings t) fault)
         refl
     by-move Fault Retry loaded fault late apart (tries-again free no-clear mode nth room) =
         let after = next Fault Retry in
         let before = late tt in
         Steps.retries (inside (at Fault)) (noteOf Fault after) (inside after) (gates-ask 0 0 after) (omega arith)
-        tt tt tt (no-cause free) (λ now. tt) tt no-clear
+        tt tt tt tt (no-cause free) (λ now. tt) tt no-clear
         (yes-and (mode1 settings) (leb 10000 (suc waited)) mode (le→leb 10000 (suc waited) (omega arith)))
         (omega (arith, room))
 

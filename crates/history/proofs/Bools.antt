@@ -24,6 +24,10 @@ pub nor : (a b : Bool) → T (not a) → T (not b) → T (not (a || b))
 nor true b p q = p
 nor false b p q = q
 
+pub not-not : (a : Bool) → T a → T (not (not a))
+not-not true p = tt
+not-not false p = p
+
 -- what would make another pass fails where that one fails
 pub contrary : (a b : Bool) → (T a → T b) → T (not b) → T (not a)
 contrary true b f q = T-not b q (f tt)
@@ -44,4 +48,4 @@ cond-cases P true x y f g = f tt
 cond-cases P false x y f g = g tt
 
 -- how joined tests are put together, for `search`
-pub ruleset joins = (yes-and, or-left, or-right, nor)
+pub ruleset joins = (yes-and, or-left, or-right, nor, not-not)

@@ -1,4 +1,5 @@
 -- Demand 3 holds of every supervisor that obeys the laws, because what is inside never claims more than the history bears out.
+use native.Mathlib.Omega.{arith}
 use mathlib.Core.Path.{_≡_, refl, ap, sym, subst, _∙_}
 use mathlib.Core.Bool.{not, _&&_, _||_}
 use mathlib.Core.List.{List, [], _∷_}
@@ -6,7 +7,7 @@ use lib.Dec.{T, le→leb}
 use mir.Facts.{and-yes}
 use Rattle.history.specs.Log.{Machine, stateAfter, entry, log}
 use Rattle.history.specs.Onlooker.{Words, Memory, memoryOf, note, notes}
-use Rattle.history.specs.History.{Seen, retried, noLoadNorStart, between, lowSince, retrySince, everLoaded, permitted, disturbed, undisturbed, startTaken, beforeStart, gatesRule, counted, retries, retryRule, holds, Demand3}
+use Rattle.history.specs.History.{Seen, retried, noLoadNorStart, noneOfThese, lowSince, retrySince, everLoaded, permitted, disturbed, undisturbed, startTaken, beforeStart, gatesRule, counted, retries, retryRule, holds, Demand3}
 use Rattle.history.specs.Laws.{Inside, asleep, Step, Lawful}
 use Rattle.history.proofs.Bools.{or-cases, or-not, contrary, cond-cases, cases, joins}
 
@@ -30,7 +31,7 @@ module _ (before : Inside) (call : Seen) (after : Inside) (past : List Seen) (la
       (λ is. search joins)
 
   -- where this call is neither load, start nor exit, a low in it counts, and so does what armed before it
-  armed-still : T (between call) → T (before .armed || call .low) → T (lowSince (call ∷ past) || retrySince (call ∷ past))
+  armed-still : T (noneOfThese call) → T (before .armed || call .low) → T (lowSince (call ∷ past) || retrySince (call ∷ past))
   unfolding lowSince retrySince
   armed-still apart by =
       or-cases (before .armed) (call .low) by
@@ -41,9 +42,9 @@ module _ (before : Inside) (call : Seen) (after : Inside) (past : List Seen) (la
   armed-after : T (after .armed) → T (lowSince (call ∷ past) || retrySince (call ∷ past))
   unfolding retrySince
   armed-after now =
-      or-cases (retried call && noLoadNorStart call) (between call && (before .armed || call .low)) (law .armed-by-low-or-retry now)
+      or-cases (retried call && noLoadNorStart call) (noneOfThese call && (before .armed || call .low)) (law .armed-by-low-or-retry now)
       (λ retry. search joins)
-      (λ else. let (apart, by) = and-yes (between call) (before .armed || call .low) else in armed-still apart by)
+      (λ else. let (apart, by) = and-yes (noneOfThese call) (before .armed || call .low) else in armed-still apart by)
 
   calm : T (after .turning) → T (undisturbed call)
   calm now = and-yes (undisturbed call) (before .turning || call .started) (law .turning-by-start now) .0
@@ -90,7 +91,7 @@ module _ (before : Inside) (call : Seen) (after : Inside) (past : List Seen) (la
 
   no-fault : T (after .turning) → T (not (call .faultStands))
   no-fault now =
-      contrary (call .faultStands) (disturbed call) (λ fault. search joins) (and-yes (call .running) (not (disturbed call)) (calm now) .1)
+      contrary (call .faultStands) (disturbed call) (λ fault. search joins) (calm now)
 
   -- the gates ask for turning, and turning for a start
   gates-hold : T (gatesRule (call ∷ past))
@@ -108,7 +109,7 @@ module _ (before : Inside) (call : Seen) (after : Inside) (past : List Seen) (la
   -- the count inside is that of the history
   retries-hold : T (retryRule (call ∷ past))
   unfolding retryRule
-  retries-hold = le→leb (retries (call ∷ past)) (call .limit) (rw (← borne-after .used) (law .count-within))
+  retries-hold = omega (arith, le→leb, borne-after .used, law .count-within)
 
 -- ---- any sequence of calls
 

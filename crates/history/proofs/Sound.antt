@@ -8,7 +8,7 @@ use mathlib.Core.List.{List}
 use lib.Dec.{T, not-T, ltb, leb}
 use borrow.Author.Tests.{ltb-true, leb-true, le-leb}
 use Rattle.history.specs.Log.{entry, log}
-use Rattle.history.specs.Onlooker.{atStop, atStart, atFault, elsewhere, Memory, remember, note, notes}
+use Rattle.history.specs.Onlooker.{Memory, remember, note, notes}
 use Rattle.history.specs.History.{Demand3}
 use Rattle.history.specs.Laws.{Inside, Step, Lawful}
 use Rattle.history.proofs.Bools.{joins}
@@ -27,16 +27,16 @@ inside (toy spot armed flag timed used limit waited) =
 
 -- what is known of a state outside IDLE, and of what the onlooker remembers of it
 record Known (flag timed : Bool) (used limit : ℕ) (memory : Memory) : Type 0 where
-  loaded : memory .loaded ≡ numbers timed limit
+  loaded : memory .numbers ≡ numbers timed limit
   within : used ≤ limit
   dead : T (ltb 1 (memory .dead)) → T flag
 
 abbrev Good : Toy → Memory → Type 0
-Good (toy idle armed flag timed used limit waited) memory = (memory .shown ≡ elsewhere) × T (not armed) × (used ≡ 0)
-Good (toy stop armed flag timed used limit waited) memory = (memory .shown ≡ atStop) × Known flag timed used limit memory
-Good (toy run armed flag timed used limit waited) memory = (memory .shown ≡ atStart) × Known flag timed used limit memory
+Good (toy idle armed flag timed used limit waited) memory = (memory .shown ≡ 0) × T (not armed) × (used ≡ 0)
+Good (toy stop armed flag timed used limit waited) memory = (memory .shown ≡ 1) × Known flag timed used limit memory
+Good (toy run armed flag timed used limit waited) memory = (memory .shown ≡ 2) × Known flag timed used limit memory
 Good (toy fault armed flag timed used limit waited) memory =
-    (memory .shown ≡ atFault) × Known flag timed used limit memory × T (not armed) × (waited ≤ memory .waited)
+    (memory .shown ≡ 3) × Known flag timed used limit memory × T (not armed) × (waited ≤ memory .waited)
 
 -- a call obeys the laws and leaves a good state
 record Done (state : Toy) (memory : Memory) (call : Press) : Type 0 where
@@ -49,8 +49,8 @@ ruleset computed = (joins, absurd, zero-le)
 -- neither cause nor clear: a retry, where retries are timed, one is due and there is room for it
 waits :
     (timed flag due room : Bool) (used limit waited : ℕ) (memory : Memory) (lever : Lever)
-    → memory .shown ≡ atFault
-    → memory .loaded ≡ numbers timed limit
+    → memory .shown ≡ 3
+    → memory .numbers ≡ numbers timed limit
     → used ≤ limit
     → suc waited ≤ suc (memory .waited)
     → leb 2 (suc waited) ≡ due
@@ -69,7 +69,7 @@ waits true flag true true used limit waited memory lever at loaded within later 
 module _ (timed : Bool) (used limit waited : ℕ) (memory : Memory) where
   in-idle :
       (flag : Bool)
-      → memory .shown ≡ elsewhere
+      → memory .shown ≡ 0
       → used ≡ 0
       → (call : Press)
       → Done (toy idle false flag timed used limit waited) memory call
@@ -80,7 +80,7 @@ module _ (timed : Bool) (used limit waited : ℕ) (memory : Memory) where
 
   in-stop :
       (armed flag : Bool)
-      → memory .shown ≡ atStop
+      → memory .shown ≡ 1
       → Known flag timed used limit memory
       → (call : Press)
       → Done (toy stop armed flag timed used limit waited) memory call
@@ -96,7 +96,7 @@ module _ (timed : Bool) (used limit waited : ℕ) (memory : Memory) where
 
   in-run :
       (armed flag : Bool)
-      → memory .shown ≡ atStart
+      → memory .shown ≡ 2
       → Known flag timed used limit memory
       → (call : Press)
       → Done (toy run armed flag timed used limit waited) memory call
@@ -116,7 +116,7 @@ module _ (timed : Bool) (used limit waited : ℕ) (memory : Memory) where
 
   in-fault :
       (flag : Bool)
-      → memory .shown ≡ atFault
+      → memory .shown ≡ 3
       → Known flag timed used limit memory
       → waited ≤ memory .waited
       → (call : Press)

@@ -19,13 +19,14 @@ module _
     pub passes-by :
         T (not (call .loaded))
         → T (not (call .started))
+        → T (not (call .began))
         → T (not (call .exited))
         → (T (after .loaded) → T (before .loaded))
         → (T (after .armed) → T (before .armed || call .low))
         → (T (after .turning) → T (undisturbed call && before .turning))
         → after .used ≡ before .used
         → Step before call after
-    passes-by no-load no-start no-exit loaded armed turning same =
+    passes-by no-load no-start none-began no-exit loaded armed turning same =
         record {
           loaded-by-load = λ now. let was = loaded now in search joins;
           armed-by-low-or-retry = λ now. let by = armed now in search joins;
@@ -85,6 +86,7 @@ module _
     module _
         (no-load : T (not (call .loaded)))
         (no-start : T (not (call .started)))
+        (none-began : T (not (call .began)))
         (exit : T (call .exited))
         (no-cause : T (not (call .causeStood)))
         (loaded : T (after .loaded) → T (before .loaded))
@@ -103,7 +105,7 @@ module _
               count-within = within;
             }
 
-        pub retries : T (not (call .clear)) → T (call .timed) → after .used ≡ suc (before .used) → Step before call after
+        pub retries : T (not (call .clear)) → T (call .due) → after .used ≡ suc (before .used) → Step before call after
         retries no-clear due one-more =
             record {
               loaded-by-load = λ now. let was = loaded now in search joins;
@@ -117,7 +119,7 @@ module _
                     is-false (call .loaded) no-load,
                     is-true (call .exited) exit,
                     is-false (call .clear) no-clear,
-                    is-true (call .timed) due,
+                    is-true (call .due) due,
                   )
                   one-more;
               count-within = within;

@@ -6,7 +6,7 @@ use mathlib.Core.List.{List, [], _∷_, reverse}
 use Rattle.history.specs.Log.{stateAfter, log}
 use Rattle.history.specs.Onlooker.{memoryOf, notes}
 use Rattle.history.specs.History.{Seen, lowSince, retrySince, everLoaded, permitted, startTaken, beforeStart, gatesRule, retries, retryRule, holds}
-use Rattle.history.proofs.Toy.{down, middle, up, fields, Press, loads, ticks, glitch, halt, words, Habit, machine, sound, startsUnarmed, startsInTheMiddle, loadKeepsArmed, startKeepsArmed, tripKeepsArmed, armsInFault, wakesInStop, leavesWithCause, leavesInASample, leavesByALoad, retriesAtOnce, retriesUntimed, retriesForEver, raisesItsLimit, storesMore, ignoresLow, ignoresCause, ignoresSamples, drivesWithFault, forgetsFault, drivesInStop, loadsInRun, saysStop, tripsInSilence, nods}
+use Rattle.history.proofs.Toy.{down, middle, up, fields, Press, loads, ticks, glitch, halt, words, Habit, machine, sound, startsUnarmed, startsInTheMiddle, startsDry, loadKeepsArmed, startKeepsArmed, tripKeepsArmed, armsInFault, wakesInStop, leavesWithCause, leavesInASample, leavesByALoad, retriesAtOnce, retriesUntimed, retriesForEver, raisesItsLimit, storesMore, ignoresLow, ignoresCause, ignoresSamples, drivesWithFault, forgetsFault, drivesInStop, loadsInRun, saysStop, tripsInSilence, nods}
 
 -- ---- calls by name
 
@@ -20,8 +20,8 @@ once = loads true 1
 abbrev low : Press
 low = ticks (fields false false down)
 
-abbrev neither : Press
-neither = ticks (fields false false middle)
+abbrev halfway : Press
+halfway = ticks (fields false false middle)
 
 abbrev high : Press
 high = ticks (fields false false up)
@@ -83,15 +83,17 @@ all test (row ∷ rows) = test row && all test rows
 
 abbrev rows : List Row
 rows =
-    -- a command already high after a load is no start, and neither is one that is not high
+    -- a command already high after a load is no start, and halfway is one that is not high
     (startsUnarmed, plain ∷ high ∷ []) ∷
-    (startsInTheMiddle, plain ∷ low ∷ neither ∷ []) ∷
+    (startsInTheMiddle, plain ∷ low ∷ halfway ∷ []) ∷
     -- a low, or a retry, before the load does not count
     (loadKeepsArmed, plain ∷ low ∷ plain ∷ high ∷ []) ∷
     (loadKeepsArmed, once ∷ trip ∷ high ∷ high ∷ once ∷ high ∷ []) ∷
     -- one low, or one retry, is good for one start
     (startKeepsArmed, plain ∷ low ∷ high ∷ halt ∷ high ∷ []) ∷
     (startKeepsArmed, once ∷ trip ∷ high ∷ high ∷ high ∷ halt ∷ high ∷ []) ∷
+    -- .. and whatever enters RUN uses it up, though it was no start and the gates were off
+    (startsDry, plain ∷ low ∷ halfway ∷ halt ∷ high ∷ []) ∷
     -- a low before the trip, in FAULT or in the tick that leaves it does not count
     (tripKeepsArmed, plain ∷ low ∷ trip ∷ clear ∷ high ∷ []) ∷
     (armsInFault, plain ∷ trip ∷ low ∷ clear ∷ high ∷ []) ∷
@@ -118,7 +120,7 @@ rows =
     (forgetsFault, plain ∷ low ∷ high ∷ glitch ∷ high ∷ []) ∷
     (loadsInRun, plain ∷ low ∷ high ∷ plain ∷ []) ∷
     (saysStop, plain ∷ low ∷ high ∷ halt ∷ []) ∷
-    -- and so does any other state, though neither a flag nor STOP was ever shown
+    -- and so does any other state, though halfway a flag nor STOP was ever shown
     (tripsInSilence, plain ∷ low ∷ high ∷ trip ∷ high ∷ []) ∷
     (nods, plain ∷ low ∷ high ∷ halt ∷ halt ∷ []) ∷
     -- no turning without a start

@@ -5,7 +5,7 @@ use mathlib.Core.List.{List, [], _∷_}
 use lib.Dec.{eqb, ltb, leb}
 use lib.ListN.{getD}
 use Rattle.history.specs.Log.{Machine}
-use Rattle.history.specs.Onlooker.{Place, atStop, atStart, atFault, elsewhere, Asked, load, tick, other, Words}
+use Rattle.history.specs.Onlooker.{Asked, load, tick, neither, Words}
 
 -- IDLE, STOP, RUN and FAULT
 pub data Spot : Type 0 where
@@ -36,7 +36,7 @@ pub data Press : Type 0 where
 -- the answers
 pub record Shown : Type 0 where
   pub accepted : Bool
-  pub place : Place
+  pub state : ℕ
   pub flag : Bool
   pub gates : Bool
 
@@ -58,8 +58,8 @@ numbers timed most = cond timed 1 0 ∷ most ∷ []
 abbrev pub asked : Press → Asked Fields
 asked (loads timed most) = load (numbers timed most)
 asked (ticks f) = tick f
-asked glitch = other
-asked halt = other
+asked glitch = neither
+asked halt = neither
 
 abbrev pub deadAfter : Press → ℕ → ℕ
 deadAfter (loads timed most) dead = 0
@@ -84,19 +84,23 @@ words =
     record {
       Tick = Fields;
       asked = asked;
-      dead = λ s. deadAfter;
       accepted = λ a. a .accepted;
-      place = λ a. a .place;
+      state = λ a. a .state;
       faultStands = λ a. a .flag;
       turns = λ a. a .gates;
+      isStop = λ n. eqb n 1;
+      isStart = λ n. eqb n 2;
+      isFault = λ n. eqb n 3;
+      isRunning = λ n. eqb n 2;
       low = λ s. isLow;
       high = λ s. isHigh;
       clear = isClear;
       cause = λ s. isCause;
+      deadAfter = λ s. deadAfter;
       deadCause = λ s dead. ltb 1 dead;
       timed = λ s. eqb (getD s 0 0) 1;
-      limit = λ s. getD s 1 0;
       wait = 2;
+      limit = λ s. getD s 1 0;
     }
 
 -- ---- the makes
@@ -105,7 +109,7 @@ words =
 pub data Habit : Type 0 where
   sound : Habit
   -- starts that nothing permits
-  startsUnarmed startsInTheMiddle loadKeepsArmed startKeepsArmed tripKeepsArmed armsInFault wakesInStop : Habit
+  startsUnarmed startsInTheMiddle startsDry loadKeepsArmed startKeepsArmed tripKeepsArmed armsInFault wakesInStop : Habit
   -- exits from FAULT that must not be
   leavesWithCause leavesInASample leavesByALoad retriesAtOnce retriesUntimed retriesForEver raisesItsLimit storesMore : Habit
   -- turning when it must not
@@ -138,6 +142,7 @@ number loadsInRun = 22
 number saysStop = 23
 number tripsInSilence = 24
 number nods = 25
+number startsDry = 26
 
 module _ (habit : Habit) where
   abbrev has : Habit → Bool
@@ -147,7 +152,8 @@ module _ (habit : Habit) where
   abbrev inStop : (armed timed : Bool) → Lever → (used limit : ℕ) → Toy
   inStop armed timed down used limit = toy stop true false timed used limit 0
   inStop armed timed middle used limit =
-      cond (has startsInTheMiddle && armed) (toy run false false timed used limit 0) (toy stop armed false timed used limit 0)
+      cond (has startsInTheMiddle && armed) (toy run false false timed used limit 0)
+      (cond (has startsDry && armed) (toy run true false timed used limit 0) (toy stop armed false timed used limit 0))
   inStop armed timed up used limit =
       cond (armed || has startsUnarmed) (toy run (has startKeepsArmed && armed) false timed used limit 0) (toy stop armed false timed used limit 0)
 
@@ -202,11 +208,11 @@ module _ (habit : Habit) where
       (cond (has nods) (toy idle armed flag timed used limit waited) (toy stop armed flag timed used limit waited))
   next (toy fault armed flag timed used limit waited) halt = toy fault armed flag timed used limit waited
 
-  abbrev pub placeOf : Toy → Place
-  placeOf (toy idle armed flag timed used limit waited) = elsewhere
-  placeOf (toy stop armed flag timed used limit waited) = atStop
-  placeOf (toy run armed flag timed used limit waited) = cond (has saysStop && armed) atStop atStart
-  placeOf (toy fault armed flag timed used limit waited) = atFault
+  abbrev pub numberOf : Toy → ℕ
+  numberOf (toy idle armed flag timed used limit waited) = 0
+  numberOf (toy stop armed flag timed used limit waited) = 1
+  numberOf (toy run armed flag timed used limit waited) = cond (has saysStop && armed) 1 2
+  numberOf (toy fault armed flag timed used limit waited) = 3
 
   abbrev flagOf : Toy → Bool
   flagOf (toy spot armed flag timed used limit waited) = flag
@@ -214,7 +220,7 @@ module _ (habit : Habit) where
   abbrev pub turns : Toy → Bool
   turns (toy idle armed flag timed used limit waited) = false
   turns (toy stop armed flag timed used limit waited) = has drivesInStop && not flag
-  turns (toy run armed flag timed used limit waited) = not flag || has drivesWithFault
+  turns (toy run armed flag timed used limit waited) = not (has startsDry && armed) && (not flag || has drivesWithFault)
   turns (toy fault armed flag timed used limit waited) = false
 
   -- a load is accepted in IDLE and STOP, any other call outside IDLE
@@ -237,7 +243,7 @@ module _ (habit : Habit) where
   accepts (toy fault armed flag timed used limit waited) halt = true
 
   abbrev pub shows : Bool → Toy → Shown
-  shows accepted state = record { accepted = accepted; place = placeOf state; flag = flagOf state; gates = turns state }
+  shows accepted state = record { accepted = accepted; state = numberOf state; flag = flagOf state; gates = turns state }
 
   abbrev pub machine : Machine
   machine =

@@ -10,21 +10,27 @@
 -- How to read it. A `Seen` is the onlooker's note of one call and its answer. A history is the list of his notes, the newest first: in
 -- `call ∷ past`, `call` is the newest, and `past` is all that came before it. Each definition below is a test of a note or of a history,
 -- and stands under the words of the demand that it renders; `Demand3`, at the end, joins them. `&&` is "and", `||` is "or".
--- `Log.antt` says what a log of calls and answers is, `Onlooker.antt` how the notes are made of it. These three files, and a supervisor's
--- own `Words`, are all that has to be believed: `Laws.antt` is a way to prove the demand of a supervisor, and `proofs/Teeth.antt` shows
--- the rule at work on a right supervisor and on wrong ones.
+--
+-- What has to be believed: this file; `Log.antt`, what a log of calls and answers is; `Onlooker.antt`, how the notes are made of it; and of
+-- a supervisor its `Words`, its machine and the statement that joins them (for the drive all three are in or named by `demands`
+-- specs/Supervised.antt). `Laws.antt` is only a way to prove the demand of a supervisor, `Page.antt` only a way to show the notes, and
+-- `proofs/Teeth.antt` shows the rule at work on a right supervisor and on wrong ones.
 --
 -- Where the words leave a choice the stricter reading is taken. "That start" is the last one, and its own call counts among those since
--- it. A start is a move from STOP at an accepted tick that held a high command. There must be a load. A tick that held a low is a stop,
--- and so is any state but a starting or running one, whatever the supervisor made of it. A live cause ends a start as a live fault
--- does. A low in the very tick that leaves FAULT is not after the exit. FAULT is left at an accepted tick only, by a clear or by a retry
--- that is timed. The loaded limit is the one that the load brought. Nothing is said of starts that must happen: that is demand 2's.
+-- it. It is a move from STOP at an accepted tick that held a high command; but whatever enters a starting or running state, at whatever
+-- call, uses up the low and the retry before it, as "previous start". There must be a load. A tick that held a low is a stop, and so is any
+-- state but a starting or running one, whatever the supervisor made of it. A live cause ends a start as a live fault does. A low in the
+-- very tick that leaves FAULT is not after the exit. FAULT is left at an accepted tick only, by a clear or by a retry that is timed. The
+-- loaded limit is the one that the load brought.
+--
+-- What it leaves to the other demands: that a call is refused only where its row holds (demand 1), that FAULT is entered at all, that the
+-- causes which a supervisor counts over time are counted rightly (the live word shows them), and that starts happen (demand 2).
 use Prim.Native.Nat.{ℕ, suc}
 use mathlib.Core.Bool.{Bool, true, false, not, _&&_, _||_, cond}
 use mathlib.Core.List.{List, [], _∷_}
 use lib.Dec.{T, leb}
 
--- The note of one call and its answer. Only the last four are read off the answer alone.
+-- The note of one call and its answer.
 pub record Seen : Type 0 where
   -- a load was accepted
   pub loaded : Bool
@@ -32,21 +38,23 @@ pub record Seen : Type 0 where
   pub low : Bool
   -- a start was taken: STOP was left for the state that a start leads to, at an accepted tick that held a high command
   pub started : Bool
+  -- a starting or running state was entered from another one, at whatever call
+  pub began : Bool
   -- FAULT was left, at whatever call
   pub exited : Bool
   -- an accepted tick with clear = 1
   pub clear : Bool
-  -- an accepted tick at which a timed retry is due: by the loaded mode, and at the 10,000th accepted tick in FAULT or later
-  pub timed : Bool
-  -- a live cause stood: a cause of the paper's list, by the tick's own fields and the samples so far, and no mask hides it
+  -- an accepted tick at which mode and time allow a retry: by the loaded mode, and at the 10,000th accepted tick in FAULT or later
+  pub due : Bool
+  -- a live cause stood, by the tick's own fields and the samples so far, and no mask hides it
   pub causeStood : Bool
   -- the loaded retry limit
   pub limit : ℕ
-  -- a live fault stands: the live word is not 0
+  -- the answer's live word is not 0
   pub faultStands : Bool
-  -- the state is a starting or running one
+  -- the answer's state is a starting or running one
   pub running : Bool
-  -- the gates charge or drive; the brake is neither
+  -- the answer's gates charge or drive; the brake is neither
   pub turns : Bool
 
 -- ---- words that the demand uses more than once
@@ -64,28 +72,28 @@ whenever condition result = not condition || result
 abbrev pub cleared : Seen → Bool
 cleared call = call .exited && call .clear
 
--- a "timed retry": FAULT was left when a retry was due, and not by a clear
+-- a "timed retry": FAULT was left when one was due, and not by a clear
 abbrev pub retried : Seen → Bool
-retried call = call .exited && call .timed && not (call .clear)
+retried call = call .exited && call .due && not (call .clear)
 
 -- ---- "Before that start .."
 
 -- "neither a load nor a start"
 abbrev pub noLoadNorStart : Seen → Bool
-noLoadNorStart call = not (call .loaded || call .started)
+noLoadNorStart call = not (call .loaded || call .began)
 
--- none of "the previous start, the load and the last exit from FAULT"
-abbrev pub between : Seen → Bool
-between call = noLoadNorStart call && not (call .exited)
+-- itself none of "the previous start, the load and the last exit from FAULT"
+abbrev pub noneOfThese : Seen → Bool
+noneOfThese call = noLoadNorStart call && not (call .exited)
 
 -- "after the previous start, the load and the last exit from FAULT, an accepted tick held a low command": strictly after, so the tick is
 -- none of these itself
 unfoldable pub lowSince : List Seen → Bool
-lowSince past = since between (λ call. call .low && between call) past
+lowSince past = since noneOfThese (λ call. call .low && noneOfThese call) past
 
 -- "the last exit from FAULT was a timed retry and neither a load nor a start came between", nor was the retry's own call one
 unfoldable pub retrySince : List Seen → Bool
-retrySince past = since between (λ call. retried call && noLoadNorStart call) past
+retrySince past = since noneOfThese (λ call. retried call && noLoadNorStart call) past
 
 -- "the load": there is one
 unfoldable pub everLoaded : List Seen → Bool
@@ -97,13 +105,13 @@ permitted past = everLoaded past && (lowSince past || retrySince past)
 
 -- ---- "After each one, if the gates charge or drive .."
 
--- what ends a start: a load, a tick that held a low, a live cause, a live fault
+-- what ends a start: any other state, a load, a tick that held a low, a live cause, a live fault
 abbrev pub disturbed : Seen → Bool
-disturbed call = call .loaded || call .low || call .causeStood || call .faultStands
+disturbed call = not (call .running) || call .loaded || call .low || call .causeStood || call .faultStands
 
--- "no live fault and no stop": and the state is a starting or running one
+-- "no live fault and no stop"
 abbrev pub undisturbed : Seen → Bool
-undisturbed call = call .running && not (disturbed call)
+undisturbed call = not (disturbed call)
 
 -- "a start was taken since the last accepted load, with no live fault and no stop since it": the call of the start included
 unfoldable pub startTaken : List Seen → Bool
@@ -124,7 +132,7 @@ gatesRule (call ∷ past) =
 
 -- and it was a clear or a timed retry, so an accepted tick
 abbrev pub exitRule : Seen → Bool
-exitRule call = whenever (call .exited) (not (call .causeStood) && (call .clear || call .timed))
+exitRule call = whenever (call .exited) (not (call .causeStood) && (call .clear || call .due))
 
 -- ---- "The timed retries .. never exceed the loaded limit."
 

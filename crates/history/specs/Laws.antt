@@ -8,7 +8,7 @@ use mathlib.Core.Bool.{Bool, false, _&&_, _||_}
 use lib.Dec.{T}
 use Rattle.history.specs.Log.{Machine, entry}
 use Rattle.history.specs.Onlooker.{Words, Memory, nothingYet, remember, note}
-use Rattle.history.specs.History.{Seen, retried, noLoadNorStart, between, undisturbed, exitRule, counted}
+use Rattle.history.specs.History.{Seen, retried, noLoadNorStart, noneOfThese, undisturbed, exitRule, counted}
 
 -- What a supervisor holds inside.
 pub record Inside : Type 0 where
@@ -29,7 +29,7 @@ asleep = record { loaded = false; armed = false; turning = false; used = 0 }
 pub record Step (before : Inside) (call : Seen) (after : Inside) : Type 0 where
   pub loaded-by-load : T (after .loaded) → T (before .loaded || call .loaded)
   -- a timed retry arms, and so does a low; load, start and any other exit leave nothing armed
-  pub armed-by-low-or-retry : T (after .armed) → T (retried call && noLoadNorStart call || between call && (before .armed || call .low))
+  pub armed-by-low-or-retry : T (after .armed) → T (retried call && noLoadNorStart call || noneOfThese call && (before .armed || call .low))
   pub start-asks : T (call .started) → T (before .loaded && before .armed)
   -- only a start lets the gates charge or drive; a disturbance takes this away, and only a start gives it back
   pub turning-by-start : T (after .turning) → T (undisturbed call && (before .turning || call .started))
