@@ -2,13 +2,14 @@
 use mathlib.Core.Bool.{Bool, true, _&&_}
 use mathlib.Core.List.{List, [], _∷_}
 use lib.Dec.{T}
+use Rattle.history.specs.Log.{stateAfter}
 use Rattle.demands.proofs.Computes.{computes}
-use Rattle.demands.specs.Bench.{Case, bench, patterns, after}
+use Rattle.demands.specs.Bench.{Case, bench}
 
 abbrev pub all-hold : List Case → Bool
 all-hold [] = true
 all-hold (c ∷ cases) = c .holds && all-hold cases
 
 pub bench-holds : T (all-hold bench)
-unfolding bench patterns after computes
+unfolding bench stateAfter computes
 bench-holds = tt

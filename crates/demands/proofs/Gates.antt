@@ -1,4 +1,4 @@
--- When the gates charge or drive: no flag is live and the state is one of the six.
+-- What an answer shows: the gates charge or drive where no flag is live and the state is one of the six; the live word is 0 where none is live.
 use mathlib.Core.Path.{_≡_, refl}
 use mathlib.Core.Bool.{Bool, true, false, not, _&&_, _||_}
 use Prim.Native.Nat.{ℕ}
@@ -6,7 +6,7 @@ use lib.Dec.{T, eqb}
 use Rattle.numbers.specs.Choose.{pick}
 use Rattle.history.proofs.Bools.{or-left, or-right}
 use Rattle.states.specs.States.{turning}
-use Rattle.drive.specs.Flags.{any}
+use Rattle.drive.specs.Flags.{any, word}
 use Rattle.drive.specs.Answer.{gateOf, gate}
 use Rattle.drive.specs.declared.flags.Flags.{Flags}
 use Rattle.states.specs.declared.State.{State}
@@ -49,3 +49,21 @@ module _ (f : Flags) where
 
 pub gates-by : (state : State) (f : Flags) → charges-or-drives (gate state f) ≡ (not (any f) && turning state)
 gates-by state f = by-flags (f .kill) (f .critical) (any f) state (from-kill f) (from-critical f)
+
+no-bits :
+    (a b c d e f g h i : Bool)
+    → T (not (a || b || c || d || e || f || g || h || i))
+    → word (record { kill = a; critical = b; over = c; under = d; flux = e; heat = f; lock = g; timeout = h; hall = i }) ≡ 0
+no-bits true b c d e f g h i t = absurd t
+no-bits false true c d e f g h i t = absurd t
+no-bits false false true d e f g h i t = absurd t
+no-bits false false false true e f g h i t = absurd t
+no-bits false false false false true f g h i t = absurd t
+no-bits false false false false false true g h i t = absurd t
+no-bits false false false false false false true h i t = absurd t
+no-bits false false false false false false false true i t = absurd t
+no-bits false false false false false false false false true t = absurd t
+no-bits false false false false false false false false false t = refl
+
+pub no-word : (f : Flags) → T (not (any f)) → word f ≡ 0
+no-word f = no-bits (f .kill) (f .critical) (f .over) (f .under) (f .flux) (f .heat) (f .lock) (f .timeout) (f .hall)

@@ -1,142 +1,226 @@
--- This drive obeys the laws of demand 3 at every call, and so demand 3 holds of every sequence of its calls.
-use mathlib.Core.Path.{_≡_, refl}
+-- This drive obeys the laws of demand 3 at every call, and so demand 3 holds of the log of every sequence of its calls.
+use mathlib.Core.Path.{_≡_, refl, sym, subst}
 use mathlib.Core.Bool.{Bool, true, false, not, _&&_, _||_}
 use mathlib.Core.List.{List}
-use Prim.Native.Nat.{ℕ}
+use Prim.Native.Nat.{ℕ, _≤_, zero-le}
 use lib.Dec.{T, eqb, not-T}
-use Rattle.numbers.specs.Choose.{pick}
-use Rattle.history.specs.Onlooker.{atStop, Kind, load, tick, other, noted, isStartOrRun}
-use Rattle.history.specs.Supervisor.{seen, history}
+use lib.Ieee.Bits.{is-false}
+use mir.Facts.{and-yes, eqb-yes, ltb-no}
+use Rattle.numbers.proofs.Choices.{by-test, decide}
+use Rattle.history.specs.Log.{log}
+use Rattle.history.specs.Onlooker.{Memory, isStop, isStart, isFault, Place, Asked, other, heard, remember, noted, note, notes}
 use Rattle.history.specs.History.{Demand3}
-use Rattle.history.specs.Laws.{Inside, Step, Lawful}
-use Rattle.history.proofs.Bools.{computed}
-use Rattle.history.proofs.Stays.{stays}
+use Rattle.history.specs.Laws.{Step, Lawful}
+use Rattle.history.proofs.Bools.{or-left, contrary, joins}
+use Rattle.history.proofs.Steps
 use Rattle.history.proofs.Demand3.{demand3}
-use Rattle.states.specs.States.{is}
+use Rattle.states.specs.States.{is, turning}
 use Rattle.settings.specs.Settings.{FaultEnable, RetryLimit}
-use Rattle.drive.specs.Command.{low}
 use Rattle.drive.specs.Flags.{any}
-use Rattle.drive.specs.Answer.{alive}
+use Rattle.drive.specs.Command.{low}
+use Rattle.drive.specs.Answer.{alive, answer, reply as replied}
 use Rattle.verdicts.specs.Table.{verdict}
+use Rattle.verdicts.specs.declared.Verdict.{Verdict}
 use Rattle.drive.specs.Refusals.{loadRows, cycleRows, tickRows}
-use Rattle.drive.specs.Calls.{fresh, cycled, ticked, sample, standing, alight}
+use Rattle.drive.specs.Calls.{fresh, cycled, ticked, sample, settle}
 use Rattle.drive.specs.Calls
 use Rattle.drive.specs.AnyCall.{Call, loads, cycles, ticks, reply}
 use Rattle.drive.specs.declared.Drive.{Drive}
+use Rattle.drive.specs.declared.answer.Reply.{Reply}
 use Rattle.fields.specs.declared.Cycle.{Cycle}
 use Rattle.fields.specs.declared.Tick.{Tick}
-use Rattle.states.specs.declared.State.{State}
-use Rattle.states.specs.declared.State.the-variants.{Idle, Stop, OffsetCal, BtsCharge, MotorRun, Fault, CatchSpin, Parking, OpenLoop, AngleSensing}
-use Rattle.demands.specs.Supervised.{supervisor, placeOf, turns}
+use Rattle.states.specs.declared.State.the-variants.{Stop}
+use Rattle.hall.specs.declared.Hall.{Hall}
+use Rattle.drive.specs.declared.flags.Flags.{Flags}
+use Rattle.drive.specs.declared.offsets.Offsets.{Offsets}
+use Rattle.reached.proofs.States.{turns as turning-is}
+use Rattle.reached.specs.Calls.{machine}
 use Rattle.reached.specs.Reached.{Reached}
-use Rattle.reached.proofs.Verdicts.{settled, passed, accepted-state}
+use Rattle.reached.proofs.Verdicts.{passed, accepted-state}
 use Rattle.reached.proofs.Flags.{stays-with-hall}
-use Rattle.reached.proofs.Keeps.{reached-power-up, call-keeps}
+use Rattle.reached.proofs.Keeps.{reached-power-up, cycled-reached, call-keeps}
 use Rattle.reached.proofs.Corollaries.{disarmed-in-fault, low-excludes-high}
-use Rattle.demands.proofs.Ticks.{inside, asks, not-both, tick-obeys}
+use Rattle.demands.specs.Supervised.{words}
+use Rattle.demands.proofs.Places.{place, loads-outside-fault, leaves-none}
+use Rattle.demands.proofs.Shown.{inside, gates-ask, shows-running, shows-no-fault, shows-no-dead}
+use Rattle.demands.proofs.Remembers.{Remembers, remembers-power-up, afterRefused, refused-remembers, load-remembers, cycle-remembers, tick-remembers}
+use Rattle.demands.proofs.Ticks
+use Rattle.demands.proofs.Ticks.{fails-left, fails-right}
 
--- what a call shows of the drive that it leaves
-abbrev Shows : Drive → Kind → Bool → Drive → Type 0
-Shows d kind cause after =
-    Step (inside d)
-    (noted kind (placeOf (d .state)) (placeOf (after .state)) cause (any (alive after)) (turns after) (RetryLimit (after .settings)))
-    (inside after)
+-- ---- a call in a reached state, with an onlooker who remembers what is so
 
-dead : (a b : Bool) → T b → T (not (a && not b))
-dead true true t = tt
-dead true false t = absurd t
-dead false b t = tt
+-- what is to be shown of a call and its reply
+module _ (d : Drive) (memory : Memory) (call : Call) where
+  pub record Done (r : Reply) : Type 0 where
+    pub remembers : Remembers (r .drive) (remember words memory (record { call = call; answer = r .answer }))
+    pub obeys : Step (inside d) (note words memory (record { call = call; answer = r .answer })) (inside (r .drive))
 
--- a live flag more may end the turning, and starts none
-dimmer : (place before after : Bool) → (T before → T after) → T (place && not after) → T (place && not before)
-dimmer true true true more t = absurd t
-dimmer true true false more t = absurd (more tt)
-dimmer true false after more t = tt
-dimmer false before after more t = absurd t
+-- a call that settles by its verdict
+settles : (P : Reply → Type 0) (v : Verdict) (next d : Drive)
+    → (v .number ≡ 0 → P (replied 0 0 next))
+    → (eqb (v .number) 0 ≡ false → P (replied (v .number) (v .place) d))
+    → P (settle v next d)
+settles P v next d accepted refused = by-test P (eqb (v .number) 0) (λ t. accepted (eqb-yes t)) (λ t. refused (is-false (eqb (v .number) 0) t))
 
--- a call that is refused
-refused : (d : Drive) (cause : Bool) → Shows d other cause d
-refused d cause =
-    stays (inside d) (inside d .turning) cause (any (alive d)) (turns d) (RetryLimit (d .settings)) (λ t. t)
-    (dead (isStartOrRun (placeOf (d .state))) (any (alive d)))
-    (asks d)
-    (placeOf (d .state))
+same-memory :
+    (m : Memory) {loaded : List ℕ} {shown : Place} {dead : ℕ}
+    → m .loaded ≡ loaded
+    → m .shown ≡ shown
+    → m .dead ≡ dead
+    → record { loaded = loaded; shown = shown; waited = m .waited; dead = dead } ≡ m
+same-memory m a b c = rw (← a, ← b, ← c)
 
--- ---- the cycle
+not-both : (a b : Bool) → (T a → T (not b)) → T (not (a && b))
+not-both true b f = f tt
+not-both false b f = tt
 
-cycle-shows : (d : Drive) (c : Cycle) (cause : Bool) → Shows d other cause (cycled d c)
-unfolding cycled
-cycle-shows d c cause =
-    let after = cycled d c in
-    stays (inside d) (inside after .turning) cause (any (alive after)) (turns after) (RetryLimit (d .settings))
-    (dimmer (isStartOrRun (placeOf (d .state))) (any (alive d)) (any (alive after))
-    (stays-with-hall (FaultEnable (d .settings)) (sample d c .flagged) (d .flags)))
-    (dead (isStartOrRun (placeOf (d .state))) (any (alive after)))
-    (asks after)
-    (placeOf (d .state))
+module _ (d : Drive) (r : Reached d) (memory : Memory) (knows : Remembers d memory) where
+  -- the retries used are within the limit that he remembers
+  within : d .retries ≤ RetryLimit (memory .loaded)
+  within =
+      decide (is 0 (d .state))
+      (λ idle. rw (r .idle idle) zero-le)
+      (λ outside. rw (knows .loaded outside) (r .retries))
 
--- ---- the load
+  -- a call that is no tick and after which the drive stands where it stood, armed as it was: one that is refused, and a cycle. It may end
+  -- the turning, by a flag
+  module _ (hall : Hall) (flags : Flags) (cycles : ℕ) (offsets : Offsets) where
+    abbrev stood : Drive
+    stood =
+        record {
+          state = d .state;
+          settings = d .settings;
+          hall = hall;
+          flags = flags;
+          cycles = cycles;
+          ticks = d .ticks;
+          offsets = offsets;
+          run = d .run;
+          armed = d .armed;
+          retries = d .retries;
+        }
 
--- it is accepted only in IDLE and STOP
-load-shows : (d : Drive) (numbers : List ℕ) → T (is 0 (d .state) || is 1 (d .state)) → Shows d load false (fresh Stop numbers)
-load-shows d numbers admitted = go (d .state) admitted (inside d)
-  where
-    go : (state : State) → T (is 0 state || is 1 state) → (before : Inside) → Step before (noted load (placeOf state) atStop false (any (alive (fresh Stop numbers))) (turns (fresh Stop numbers)) (RetryLimit numbers)) (inside (fresh Stop numbers))
-    go Idle admitted before = search computed
-    go Stop admitted before = search computed
-    go OffsetCal admitted before = absurd admitted
-    go BtsCharge admitted before = absurd admitted
-    go MotorRun admitted before = absurd admitted
-    go Fault admitted before = absurd admitted
-    go CatchSpin admitted before = absurd admitted
-    go Parking admitted before = absurd admitted
-    go OpenLoop admitted before = absurd admitted
-    go AngleSensing admitted before = absurd admitted
+    stands :
+        (number at : ℕ) (now : Memory)
+        → Reached stood
+        → (T (any (alive d)) → T (any (alive stood)))
+        → Remembers stood now
+        → now .loaded ≡ memory .loaded
+        → Step (inside d) (noted words memory other now (answer number at stood)) (inside stood)
+    unfolding answer
+    stands number at now r-now more knows-now same =
+        Steps.passes-by (inside d) (noted words memory other now (answer number at stood)) (inside stood) (gates-ask number at stood)
+        (rw same within)
+        tt
+        (fails-right (isStart (now .shown) && isStop (memory .shown)))
+        (rw (knows .shown, knows-now .shown) (leaves-none (place (d .state))))
+        (λ is. is)
+        (or-left (d .armed) false)
+        (λ turns.
+        let (runs, dark) = and-yes (turning (d .state)) (not (any (alive stood))) turns in
+        let shown = shows-running number at stood turns in
+        let no-fault = shows-no-fault number at stood turns in
+        let no-dead = shows-no-dead number at stood turns r-now in
+        let was = contrary (any (alive d)) (any (alive stood)) more dark in
+        rw (knows-now .shown, knows-now .loaded (turning-is (d .state) runs .not-idle), knows-now .dead) (search joins))
+        refl
 
--- ---- the tick
+  module _ (call : Call) (number at : ℕ) (not-0 : eqb number 0 ≡ false) where
+    abbrev after : Memory
+    after = afterRefused memory call number at d
 
-module _ (d : Drive) (r : Reached d) (t : Tick) (taken : verdict (tickRows d t) .number ≡ 0) where
-  loaded : T (not (is 0 (d .state)))
-  loaded = passed (tickRows d t) tt taken .0
+    heard-nothing : heard words (record { call = call; answer = answer number at d }) ≡ other
+    unfolding answer
+    heard-nothing = rw not-0
 
-  tick-shows : Shows d (tick (low (d .settings) t) (eqb (t .clear) 1)) (alight d (standing d t)) (ticked d t)
-  tick-shows =
-      tick-obeys (d .settings) (d .hall) (d .flags) (d .cycles) (d .ticks) (d .offsets) (d .run) (d .armed) (d .retries) t (d .state)
-      loaded
-      (not-both (is 5 (d .state)) (d .armed) (λ fault. rw (disarmed-in-fault d r fault) tt))
-      (λ is-high. not-T (low (d .settings) t) (λ is-low. low-excludes-high d r t loaded is-low is-high))
+    loaded-nothing : after .loaded ≡ memory .loaded
+    unfolding answer
+    loaded-nothing = rw not-0
+
+    refused : Done d memory call (replied number at d)
+    refused =
+        let now = refused-remembers d memory knows call number at not-0 in
+        record {
+          remembers = now;
+          obeys =
+              subst (λ (about : Asked Tick). Step (inside d) (noted words memory about after (answer number at d)) (inside d)) (sym heard-nothing)
+              (stands (d .hall) (d .flags) (d .cycles) (d .offsets) number at after r (λ t. t) now loaded-nothing);
+        }
+
+  load-done : (numbers : List ℕ) → T (is 0 (d .state) || is 1 (d .state)) → Done d memory (loads numbers) (replied 0 0 (fresh Stop numbers))
+  unfolding answer
+  load-done numbers admitted =
+      record {
+        remembers = load-remembers d memory knows numbers;
+        obeys =
+            Steps.loads (inside d) _ (inside (fresh Stop numbers)) (gates-ask 0 0 (fresh Stop numbers)) zero-le
+            tt tt
+            (rw (knows .shown) (fails-left (isFault (place (d .state))) true (loads-outside-fault (d .state) admitted)))
+            tt tt refl;
+      }
+
+  cycle-done : (c : Cycle) → Reached (cycled d c) → c .pattern ≤ 7 → Done d memory (cycles c) (replied 0 0 (cycled d c))
+  unfolding answer cycled
+  cycle-done c r-now small =
+      let now = cycle-remembers d memory knows c small in
+      record {
+        remembers = now;
+        obeys =
+            stands _ _ _ _ 0 0 _ r-now (stays-with-hall (FaultEnable (d .settings)) (sample d c .flagged) (d .flags)) now refl;
+      }
+
+  module _ (t : Tick) (outside : T (not (is 0 (d .state)))) where
+    -- what he remembers, in the drive's words
+    recalled :
+        Ticks.memory (d .settings) (d .hall) (d .flags) (d .cycles) (d .ticks) (d .offsets) (d .run) (d .armed) (d .retries) t
+        (memory .waited) (d .state)
+        ≡ memory
+    recalled = same-memory memory (knows .loaded outside) (knows .shown) (knows .dead)
+
+    tick-done : Done d memory (ticks t) (replied 0 0 (ticked d t))
+    tick-done =
+        record {
+          remembers = tick-remembers d memory knows t outside;
+          obeys =
+              subst (λ (m : Memory). Step (inside d) (note words m (record { call = ticks t; answer = answer 0 0 (ticked d t) })) (inside (ticked d t)))
+              recalled
+              (Ticks.tick-obeys (d .settings) (d .hall) (d .flags) (d .cycles) (d .ticks) (d .offsets) (d .run) (d .armed) (d .retries) t
+              (memory .waited) (r .retries) (d .state)
+              outside
+              (not-both (is 5 (d .state)) (d .armed) (λ fault. rw (disarmed-in-fault d r fault) tt))
+              (knows .waited)
+              (λ is-high. not-T (low (d .settings) t) (λ is-low. low-excludes-high d r t outside is-low is-high)));
+        }
+
+  done : (call : Call) → Done d memory call (reply d call)
+  unfolding Calls.load Calls.cycle Calls.tick
+  done (loads numbers) =
+      settles (Done d memory (loads numbers)) (verdict (loadRows d numbers)) (fresh Stop numbers) d
+      (λ none. load-done numbers (accepted-state d numbers none))
+      (refused (loads numbers) _ _)
+  done (cycles c) =
+      settles (Done d memory (cycles c)) (verdict (cycleRows d c)) (cycled d c) d
+      (λ none. let p = passed (cycleRows d c) tt none in
+      cycle-done c (cycled-reached d c r (p .0) (ltb-no (p .1 .1 .0)) (ltb-no (p .1 .1 .1 .0))) (ltb-no (p .1 .0)))
+      (refused (cycles c) _ _)
+  done (ticks t) =
+      settles (Done d memory (ticks t)) (verdict (tickRows d t)) (ticked d t) d
+      (λ none. tick-done t (passed (tickRows d t) tt none .0))
+      (refused (ticks t) _ _)
 
 -- ---- every call
 
-obeys : (d : Drive) → Reached d → (call : Call) → Step (inside d) (seen supervisor d call) (inside (reply d call .drive))
-unfolding Calls.load Calls.cycle Calls.tick
-obeys d r (loads numbers) =
-    settled (λ (after : Drive) (taken : Bool). Shows d (pick taken load other) false after) (verdict (loadRows d numbers))
-    (fresh Stop numbers) d
-    (λ none. load-shows d numbers (accepted-state d numbers none))
-    (refused d false)
-obeys d r (cycles c) =
-    settled (λ (after : Drive) (taken : Bool). Shows d other false after) (verdict (cycleRows d c)) (cycled d c) d
-    (λ none. cycle-shows d c false)
-    (refused d false)
-obeys d r (ticks t) =
-    let cause : Bool = alight d (standing d t) in
-    settled (λ (after : Drive) (taken : Bool). Shows d (pick taken (tick (low (d .settings) t) (eqb (t .clear) 1)) other) cause after)
-    (verdict (tickRows d t)) (ticked d t) d
-    (λ none. tick-shows d r t none)
-    (refused d cause)
-
-pub lawful : Lawful supervisor
+pub lawful : Lawful machine words
 lawful =
     record {
       inside = inside;
-      Good = Reached;
-      good-at-power-up = reached-power-up;
-      good-after = λ d r call. call-keeps d call r;
-      asleep = record { not-loaded = tt; not-armed = tt; not-turning = tt; none-used = refl; no-limit = refl };
-      obeys = obeys;
+      Good = λ d memory. Reached d × Remembers d memory;
+      good-at-power-up = (reached-power-up, remembers-power-up);
+      good-after = λ d memory good call. (call-keeps d call (good .0), done d (good .0) memory (good .1) call .remembers);
+      asleep-at-power-up = refl;
+      obeys = λ d memory good call. done d (good .0) memory (good .1) call .obeys;
     }
 
--- Demand 3 of this drive, for every list of calls from power-up.
-pub drive-demand3 : (calls : List Call) → Demand3 (history supervisor calls)
-drive-demand3 = demand3 supervisor lawful
+-- Demand 3 of this drive, for every list of calls from power-up, stated of the log of calls and answers.
+pub drive-demand3 : (calls : List Call) → Demand3 (notes words (log machine calls))
+drive-demand3 = demand3 machine words lawful

@@ -1,15 +1,17 @@
 -- The demands of this drive.
 pub mod Gates
 pub mod Places
-pub mod Steps
+pub mod Causes
+pub mod Shown
+pub mod Remembers
 pub mod Ticks
 pub mod Lawful
 pub mod Clauses
 pub mod Refused
-pub mod OneReply
 pub mod Computes
 pub mod Bench
 pub mod Silence
+pub mod Liars
 mod Grown
 pub mod Stream
 pub mod Errors

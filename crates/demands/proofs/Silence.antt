@@ -1,41 +1,42 @@
--- The three runs of the specs do what they say.
-use mathlib.Core.Path.{_≡_, refl, sym, ap, _∙_}
-use mathlib.Core.Bool.{true, false, _&&_}
+-- The three runs of the specs do what they say: what is short is computed, and the ticks of the wait are all alike.
+use mathlib.Core.Path.{_≡_, refl, ap, _∙_}
+use mathlib.Core.Bool.{true, false}
+use mathlib.Core.List.{List, [], _∷_, _++_, append-nil}
 use Prim.Native.Nat.{ℕ, zero, suc, _+_, _≤_, min}
 use native.Mathlib.Omega.{arith}
-use native.Mathlib.Nat.{add-zero}
-use lib.Dec.{T, leb, lit≤}
-use borrow.Author.Tests.{lt-leb}
-use Rattle.numbers.specs.Count.{up}
-use Rattle.states.specs.States.{is}
-use Rattle.drive.specs.Flags.{none}
-use Rattle.drive.specs.Calls.{powerUp}
-use Rattle.drive.specs.AnyCall.{reply}
+use lib.Dec.{leb, lit≤}
 use lib.IntN.{pos, negsuc}
+use lib.ListN.{length, replicate, length-append, length-replicate}
+use borrow.Author.Tests.{lt-leb}
+use Rattle.history.specs.Log.{stateAfter, entry, log}
+use Rattle.history.specs.Onlooker.{atFault, Memory, memoryOf, remember, note, notes}
+use Rattle.history.specs.History.{Seen}
+use Rattle.history.specs.Page.{Mark, load, low, cause, retry, start, turns, stands, page, turning}
+use Rattle.numbers.specs.Count.{up}
+use Rattle.drive.specs.AnyCall.{reply}
 use Rattle.hall.specs.declared.fate.Kept.the-variants.{Pattern}
 use Rattle.states.specs.declared.State.the-variants.{Stop, Fault}
+use Rattle.drive.specs.Flags.{none}
 use Rattle.drive.specs.declared.Drive.{Drive}
+use Rattle.reached.specs.Calls.{machine}
 use Rattle.demands.proofs.Computes.{computes}
-use Rattle.demands.specs.Bench.{settings, after, times}
-use Rattle.demands.specs.Silence.{settings1, high, clear, raised, tripped, waited, held}
-use Rattle.demands.specs.Supervised.{turns}
+use Rattle.demands.specs.Calls.{settingsWith, high, clear}
+use Rattle.demands.specs.Silence.{noted, turned, tripped, waited, triedAgain, foremansPage, held}
+use Rattle.demands.specs.Supervised.{words}
 
--- A raised command: MOTORRUN with the gates driving.
-pub turns-by-command : T (is 4 (after powerUp (raised settings) .state) && turns (after powerUp (raised settings)))
-unfolding after computes
-turns-by-command = tt
+-- A raised command turns the pump.
+pub turns-by-command : turning (noted turned) ≡ true
+unfolding stateAfter log memoryOf notes computes
+turns-by-command = refl
 
--- the same run in mode 1, tripped
-trips : T (is 5 (tripped .state))
-unfolding after computes
-trips = tt
+-- ---- the wait for a retry
 
--- the tripped drive at its n-th tick in FAULT, written out
+-- the tripped drive at its n-th tick in FAULT, written out, and what the onlooker remembers then
 abbrev faulted : ℕ → Drive
 faulted n =
     record {
       state = Fault;
-      settings = settings1;
+      settings = settingsWith 1 0;
       hall = record { kept = Pattern 1; position = 0; angle = negsuc 5461; dead = 0; stray = 0; still = 66 };
       flags =
           record {
@@ -57,49 +58,142 @@ faulted n =
       retries = 0;
     }
 
-is-faulted : tripped ≡ faulted 0
-unfolding after computes
+abbrev recalled : ℕ → Memory
+recalled n = record { loaded = settingsWith 1 0; shown = atFault; waited = n; dead = 0 }
+
+-- his note of each tick of the wait: a live fault stands, and nothing happens
+abbrev waiting : Seen
+waiting =
+    record {
+      loaded = false;
+      low = false;
+      started = false;
+      exited = false;
+      clear = false;
+      timed = false;
+      causeStood = false;
+      limit = 2;
+      faultStands = true;
+      running = false;
+      turns = false;
+    }
+
+is-faulted : stateAfter machine tripped ≡ faulted 0
+unfolding stateAfter computes
 is-faulted = refl
 
--- one tick of the wait
-waits : (n : ℕ) → n ≤ 9998 → reply (faulted n) high .drive ≡ faulted (n + 1)
-unfolding after computes
-waits n small =
-    let counted : min (n + 1) 65535 ≡ n + 1 = omega arith in
-    let early : leb 10000 (min (n + 1) 65535) ≡ false = lt-leb 10000 (min (n + 1) 65535) (omega arith) in
-    rw (early, counted)
+is-recalled : memoryOf words (log machine tripped) ≡ recalled 0
+unfolding stateAfter log memoryOf computes
+is-recalled = refl
 
--- n ticks of the wait
-waits-all : (n k : ℕ) → k + n ≤ 9999 → after (faulted k) (times n high) ≡ faulted (k + n)
-unfolding after
-waits-all zero k small = ap faulted (sym (add-zero k))
-waits-all (suc n) k small =
-    ap (λ (d : Drive). after d (times n high)) (waits k (omega arith))
-    ∙ waits-all n (k + 1) (omega arith)
-    ∙ ap faulted (omega arith)
+module _ (n : ℕ) (small : n ≤ 9998) where
+  early : leb 10000 (min (n + 1) 65535) ≡ false
+  early = lt-leb 10000 (min (n + 1) 65535) (omega arith)
 
--- the 10,000th tick leaves FAULT, and the next one starts
-leaves : T (is 1 (reply (faulted 9999) high .drive .state)) × T (turns (reply (reply (faulted 9999) high .drive) high .drive))
-unfolding after computes
-leaves = (tt, tt)
+  waits : reply (faulted n) high .drive ≡ faulted (suc n)
+  unfolding computes
+  waits = let counted : min (n + 1) 65535 ≡ suc n = omega arith in rw (early, counted)
 
--- A trip, 9,999 ticks in FAULT, the 10,000th by which the drive leaves it, and the next, which starts: the gates charge.
-pub turns-by-retry :
-    (waited 9999 .state ≡ Fault)
-    × T (is 1 (reply (waited 9999) high .drive .state))
-    × T (turns (reply (reply (waited 9999) high .drive) high .drive))
-turns-by-retry =
-    let over : waited 9999 ≡ faulted 9999 =
-    ap (λ (d : Drive). after d (times 9999 high)) is-faulted ∙ waits-all 9999 0 (lit≤ tt)
-    in
-    rw over (refl, leaves .0, leaves .1)
+  waits-noted : note words (recalled n) (entry machine (faulted n) high) ≡ waiting
+  unfolding computes
+  waits-noted = let early-too : leb 10000 (suc n) ≡ false = lt-leb 10000 (suc n) (omega arith) in rw (early, early-too)
 
--- the drive after the clear, at its n-th tick in STOP
+  waits-recalled : remember words (recalled n) (entry machine (faulted n) high) ≡ recalled (suc n)
+  unfolding computes
+  waits-recalled = rw early
+
+-- n ticks of the wait: the drive, what he remembers, and his notes
+both : {A : Type 0} (f : Drive → Memory → A) {d d′ : Drive} {m m′ : Memory} → d ≡ d′ → m ≡ m′ → f d m ≡ f d′ m′
+both f {d} {d′} {m} {m′} e e′ = ap (λ (x : Drive). f x m) e ∙ ap (f d′) e′
+
+waits-all : (n : ℕ) → n ≤ 9999 → stateAfter machine (waited n) ≡ faulted n
+unfolding stateAfter
+waits-all zero small = is-faulted
+waits-all (suc n) small = ap (λ (d : Drive). reply d high .drive) (waits-all n (omega arith)) ∙ waits n (omega arith)
+
+recalls-all : (n : ℕ) → n ≤ 9999 → memoryOf words (log machine (waited n)) ≡ recalled n
+unfolding log memoryOf
+recalls-all zero small = is-recalled
+recalls-all (suc n) small =
+    both (λ (d : Drive) (m : Memory). remember words m (entry machine d high)) (waits-all n (omega arith)) (recalls-all n (omega arith))
+    ∙ waits-recalled n (omega arith)
+
+notes-all : (n : ℕ) → n ≤ 9999 → noted (waited n) ≡ replicate n waiting ++ noted tripped
+unfolding log notes
+notes-all zero small = refl
+notes-all (suc n) small =
+    both (λ (d : Drive) (m : Memory). note words m (entry machine d high) ∷ noted (waited n)) (waits-all n (omega arith)) (recalls-all n (omega arith))
+    ∙ ap (λ (call : Seen). call ∷ noted (waited n)) (waits-noted n (omega arith))
+    ∙ ap (λ (past : List Seen). waiting ∷ past) (notes-all n (omega arith))
+
+-- nothing of it comes on the page
+still : (n : ℕ) (past : List Seen) → turning past ≡ false → turning (replicate n waiting ++ past) ≡ false
+still zero past rests = rests
+still (suc n) past rests = refl
+
+nothing-more : (n : ℕ) (past : List Seen) → turning past ≡ false → page (replicate n waiting ++ past) ≡ page past
+unfolding page
+nothing-more zero past rests = refl
+nothing-more (suc n) past rests =
+    rw (still n past rests, append-nil (page (replicate n waiting ++ past))) (nothing-more n past rests)
+
+-- the calls up to the trip
+trips : turning (noted tripped) ≡ false
+unfolding stateAfter log memoryOf notes computes
+trips = refl
+
+seventy-eight : length (noted tripped) ≡ 78
+unfolding stateAfter log memoryOf notes computes
+seventy-eight = refl
+
+-- two highs more
+abbrev two-more : Drive → Memory → List Seen → List Seen
+two-more d m past =
+    note words (remember words m (entry machine d high)) (entry machine (reply d high .drive) high) ∷ note words m (entry machine d high) ∷ past
+
+ends : (n : ℕ)
+    → noted (high ∷ high ∷ waited n)
+    ≡ two-more (stateAfter machine (waited n)) (memoryOf words (log machine (waited n))) (noted (waited n))
+unfolding stateAfter log memoryOf notes
+ends n = refl
+
+-- at the 10,000th tick in FAULT the drive makes its retry, and the next one starts
+on-the-page : (past : List Seen)
+    → turning past ≡ false
+    → length past ≡ 10077
+    → page (two-more (faulted 9999) (recalled 9999) past) ≡ (page past ++ ((10078, retry) ∷ [])) ++ ((10079, start) ∷ (10079, turns) ∷ [])
+unfolding page computes
+on-the-page past rests many = rw (rests, many)
+
+up-to-the-trip : page (noted tripped)
+    ≡ (1, load) ∷ (2, low) ∷ (67, low) ∷ (68, low) ∷ (69, start) ∷ (69, turns) ∷ (78, cause) ∷ (78, stands) ∷ []
+unfolding stateAfter log memoryOf notes page computes
+up-to-the-trip = refl
+
+all-of-it : (n : ℕ) → n ≤ 9999 → n ≡ 9999 → page (noted (high ∷ high ∷ waited n)) ≡ foremansPage
+all-of-it n small e =
+    let past : List Seen = replicate n waiting ++ noted tripped in
+    let many : length past ≡ 10077 = simp (length-append, length-replicate, seventy-eight) (omega arith) in
+    ap page (ends n)
+    ∙ both (λ (d : Drive) (m : Memory). page (two-more d m (noted (waited n)))) (waits-all n small) (recalls-all n small)
+    ∙ ap (λ (notes : List Seen). page (two-more (faulted n) (recalled n) notes)) (notes-all n small)
+    ∙ ap (λ (k : ℕ). page (two-more (faulted k) (recalled k) past)) e
+    ∙ on-the-page past (still n (noted tripped) trips) many
+    ∙ ap (λ (p : List (ℕ × Mark)). (p ++ ((10078, retry) ∷ [])) ++ ((10079, start) ∷ (10079, turns) ∷ []))
+    (nothing-more n (noted tripped) trips ∙ up-to-the-trip)
+
+-- The page to show a foreman: load, low, start, trip, 9,999 ticks in FAULT, the retry at the 10,000th, and the start.
+pub the-foremans-page : page (noted triedAgain) ≡ foremansPage
+the-foremans-page = all-of-it 9999 (lit≤ tt) refl
+
+-- ---- a clear, and the command held high
+
+-- the drive after the clear, when so many ticks in STOP are counted
 abbrev stopped : ℕ → Drive
 stopped n =
     record {
       state = Stop;
-      settings = settings1;
+      settings = settingsWith 1 0;
       hall = faulted 0 .hall;
       flags = none;
       cycles = 0;
@@ -110,23 +204,33 @@ stopped n =
       retries = 0;
     }
 
-is-stopped : reply (faulted 0) clear .drive ≡ stopped 0
-unfolding after computes
-is-stopped = refl
+clears : reply (faulted 0) clear .drive ≡ stopped 0
+unfolding computes
+clears = refl
 
 stays : (n : ℕ) → reply (stopped n) high .drive ≡ stopped (up 65535 n)
-unfolding after computes
+unfolding computes
 stays n = refl
 
-stays-all : (n k : ℕ) → after (stopped k) (times n high) .state ≡ Stop
-unfolding after
-stays-all zero k = refl
-stays-all (suc n) k = ap (λ (d : Drive). after d (times n high) .state) (stays k) ∙ stays-all n (up 65535 k)
+abbrev counted : ℕ → ℕ
+counted zero = 0
+counted (suc n) = up 65535 (counted n)
+
+stays-all : (n : ℕ) → stateAfter machine (held n) ≡ stopped (counted n)
+unfolding stateAfter
+stays-all zero = ap (λ (d : Drive). reply d clear .drive) is-faulted ∙ clears
+stays-all (suc n) = ap (λ (d : Drive). reply d high .drive) (stays-all n) ∙ stays (counted n)
+
+clear-rests : words .turns (machine .answer (faulted 0) clear) ≡ false
+unfolding computes
+clear-rests = refl
+
+high-rests : (n : ℕ) → words .turns (machine .answer (stopped n) high) ≡ false
+unfolding computes
+high-rests n = refl
 
 -- A command held high after a clear starts nothing, however long it is held.
-pub held-high-starts-nothing : (n : ℕ) → held n .state ≡ Stop
-unfolding after
-held-high-starts-nothing n =
-    ap (λ (d : Drive). after (reply d clear .drive) (times n high) .state) is-faulted
-    ∙ ap (λ (d : Drive). after d (times n high) .state) is-stopped
-    ∙ stays-all n 0
+pub held-high-starts-nothing : (n : ℕ) → turning (noted (held n)) ≡ false
+unfolding log notes
+held-high-starts-nothing zero = ap (λ (d : Drive). words .turns (machine .answer d clear)) is-faulted ∙ clear-rests
+held-high-starts-nothing (suc n) = ap (λ (d : Drive). words .turns (machine .answer d high)) (stays-all n) ∙ high-rests (counted n)

@@ -1,20 +1,24 @@
--- An accepted tick obeys the laws of demand 3.
-use mathlib.Core.Path.{_≡_, subst}
+-- An accepted tick obeys the laws of demand 3, whichever way its move comes about.
+use mathlib.Core.Path.{_≡_, refl}
 use mathlib.Core.Bool.{Bool, true, false, not, _&&_, _||_}
 use mathlib.Core.List.{List}
-use Prim.Native.Nat.{ℕ}
+use Prim.Native.Nat.{ℕ, suc, _≤_, zero-le}
 use native.Mathlib.Omega.{arith}
-use lib.Dec.{T, eqb}
-use Rattle.numbers.specs.Count.{up}
-use Rattle.history.specs.Onlooker.{atStop, atRun, atFault, elsewhere, tick, noted}
-use Rattle.history.specs.Laws.{Inside, Step}
+use lib.Dec.{T, leb, le→leb}
+use mir.Facts.{and-yes, yes-and}
+use Rattle.history.specs.Onlooker.{Memory, isFault, note}
+use Rattle.history.specs.History.{Seen, undisturbed}
+use Rattle.history.specs.Laws.{Step}
+use Rattle.history.proofs.Bools.{contrary, never, joins}
+use Rattle.history.proofs.Steps
 use Rattle.hall.specs.declared.Hall.{Hall}
 use Rattle.states.specs.States.{is, turning}
-use Rattle.settings.specs.Settings.{FaultEnable, RetryLimit}
+use Rattle.settings.specs.Settings.{FaultEnable, RetryLimit, mode1}
 use Rattle.drive.specs.Flags.{any}
 use Rattle.drive.specs.Command.{low, high}
-use Rattle.drive.specs.Answer.{alive}
+use Rattle.drive.specs.Answer.{alive, answer}
 use Rattle.drive.specs.Calls.{watch, standing, raised, alight, arms, grounds, chosen, moved, ticked}
+use Rattle.drive.specs.AnyCall.{ticks}
 use Rattle.moves.proofs.Ways.{Way, trips, stops, goes-on, calibrates, starts, measures, clears, tries-again, stays, way-of}
 use Rattle.drive.specs.declared.Drive.{Drive}
 use Rattle.fields.specs.declared.Tick.{Tick}
@@ -27,57 +31,35 @@ use Rattle.moves.specs.declared.Grounds.{Grounds}
 use Rattle.moves.specs.declared.Move.{Move}
 use Rattle.moves.specs.declared.Move.the-variants.{Stay, Enter, Measure, Clear, Retry}
 use Rattle.reached.proofs.Flags.{stays-with-causes}
-use Rattle.demands.specs.Supervised.{placeOf, turns}
-use Rattle.demands.proofs.Gates.{gates-by}
-use Rattle.demands.proofs.Places.{turning-place, fault-place, run-place, no-fault}
-use Rattle.demands.proofs.Steps.{holds, Asks, Arms, stays-law, rests-law, starts-law, runs-law, clears-law, retries-law}
+use Rattle.demands.specs.Supervised.{words, causeOf, deadCauseOf}
+use Rattle.demands.proofs.Places.{place, turning-place, run-place, run-leaves-none, leaves-none, starts-none}
+use Rattle.demands.proofs.Causes.{found-blocks, found-trips}
+use Rattle.demands.proofs.Shown.{inside, gates-ask, shows-running, shows-no-fault}
 
--- ---- what the drive holds inside
+-- ---- small laws on tests
 
-abbrev pub inside : Drive → Inside
-inside d = holds (placeOf (d .state)) (not (is 0 (d .state))) (d .armed) (any (alive d)) (d .retries) (RetryLimit (d .settings))
+-- only a low arms, whatever else has to hold for it
+arming : (armed low other : Bool) → T (armed || low && other) → T (armed || low)
+arming true low other t = tt
+arming false true other t = tt
+arming false false other t = absurd t
 
-swapped : (a b : Bool) → T (not a && b) → T (b && not a)
-swapped true b t = absurd t
-swapped false true t = tt
-swapped false false t = t
+pub fails-right : (a : Bool) → T (not (a && false))
+fails-right true = tt
+fails-right false = tt
 
-pub asks : (d : Drive) → Asks (turns d) (placeOf (d .state)) (any (alive d))
-asks d t =
-    subst (λ (b : Bool). T (b && not (any (alive d)))) (turning-place (d .state))
-    (swapped (any (alive d)) (turning (d .state)) (subst T (gates-by (d .state) (alive d)) t))
-
-arming : (armed low x : Bool) → Arms armed low (armed || low && x)
-arming true low x t = tt
-arming false true x t = tt
-arming false false x t = absurd t
-
-arming-with : (armed low x y : Bool) → Arms armed low ((armed || low && x) && y)
-arming-with true low x y t = tt
-arming-with false true x y t = tt
-arming-with false false x y t = absurd t
-
-disarmed : (a : Bool) → T (not (a && false))
-disarmed true = tt
-disarmed false = tt
+pub fails-left : (a b : Bool) → T (not a) → T (not (a && b))
+fails-left true b t = absurd t
+fails-left false b t = tt
 
 unarmed : (armed low : Bool) → T (not armed) → T (not (armed || low && false))
 unarmed true low t = absurd t
-unarmed false true t = tt
-unarmed false false t = tt
+unarmed false low t = fails-right low
 
-pub not-both : (a b : Bool) → (T a → T (not b)) → T (not (a && b))
-not-both true b f = f tt
-not-both false b f = tt
+-- ---- a tick in a state, of a drive whose other fields are anything, with an onlooker who remembers what is so
 
-one-of : (a b : Bool) → (T (not a) → T b) → T (a || b)
-one-of true b f = tt
-one-of false b f = f tt
-
--- ---- a tick in a state, of a drive whose other fields are anything
-
-module _ (settings : List ℕ) (hall : Hall) (flags : Flags) (cycles ticks : ℕ) (offsets : Offsets) (run : Run)
-    (armed : Bool) (used : ℕ) (t : Tick) where
+module _ (settings : List ℕ) (hall : Hall) (flags : Flags) (cycles count : ℕ) (offsets : Offsets) (run : Run)
+    (armed : Bool) (used : ℕ) (t : Tick) (waited : ℕ) where
   abbrev at : State → Drive
   at state =
       record {
@@ -86,126 +68,157 @@ module _ (settings : List ℕ) (hall : Hall) (flags : Flags) (cycles ticks : ℕ
         hall = hall;
         flags = flags;
         cycles = cycles;
-        ticks = ticks;
+        ticks = count;
         offsets = offsets;
         run = run;
         armed = armed;
         retries = used;
       }
 
+  abbrev pub memory : State → Memory
+  memory state = record { loaded = settings; shown = place state; waited = waited; dead = hall .dead }
+
   abbrev tripped : State → Bool
   tripped state = alight (at state) (raised (at state) t)
-
-  abbrev blocked : State → Bool
-  blocked state = alight (at state) (standing (at state) t)
 
   abbrev on : State → Grounds
   on state = grounds (at state) t (standing (at state) t) (raised (at state) t)
 
-  kept : (state : State) → T (any (alive (at state))) → T (tripped state)
-  kept state = stays-with-causes (FaultEnable settings) flags (standing (at state) t)
-
   abbrev next : State → Move → Drive
   next state move = moved (at state) t (watch (at state) t) (raised (at state) t) (arms (at state) t) move
 
-  abbrev Obeys : State → Drive → Type 0
-  Obeys state after =
-      Step (inside (at state))
-      (noted (tick (low settings t) (eqb (t .clear) 1)) (placeOf state) (placeOf (after .state)) (blocked state)
-      (any (alive after)) (turns after) (RetryLimit (after .settings)))
-      (inside after)
+  abbrev noteOf : State → Drive → Seen
+  noteOf state after = note words (memory state) (record { call = ticks t; answer = answer 0 0 after })
 
-  by-move :
-      (state : State) (move : Move)
-      → T (not (is 0 state))
-      → T (not (is 5 state && armed))
-      → (T (high settings t) → T (not (low settings t)))
-      → Way (on state) state move
-      → Obeys state (next state move)
-  by-move state Stay loaded fault apart (stays no-low no-trip) =
-      stays-law (placeOf state) (not (is 0 state)) armed (armed || low settings t && not (is 5 state)) (any (alive (at state)))
-      (tripped state) (low settings t) (eqb (t .clear) 1) (blocked state) (turns (next state Stay)) used (RetryLimit settings)
-      (kept state)
-      (rw (← turning-place state) (not-both (turning state) (low settings t) no-low))
-      (rw (← fault-place state) (one-of (is 5 state) (not (tripped state)) no-trip))
-      (arming armed (low settings t) (not (is 5 state)))
-      (asks (next state Stay))
-  by-move state (Enter Fault) loaded fault apart (trips free trip) =
-      rests-law (placeOf state) atFault (not (is 0 state)) true armed ((armed || low settings t && not (is 5 state)) && false)
-      (any (alive (at state))) (tripped state) (low settings t) (eqb (t .clear) 1) (blocked state)
-      (turns (next state (Enter Fault))) used (RetryLimit settings)
-      loaded
-      (rw (← fault-place state) free)
-      tt
-      (arming-with armed (low settings t) (not (is 5 state)) false)
-      (asks (next state (Enter Fault)))
-  by-move state (Enter Stop) loaded fault apart (stops turns-on is-low no-trip) =
-      rests-law (placeOf state) atStop (not (is 0 state)) true armed ((armed || low settings t && not (is 5 state)) && true)
-      (any (alive (at state))) (tripped state) (low settings t) (eqb (t .clear) 1) (blocked state)
-      (turns (next state (Enter Stop))) used (RetryLimit settings)
-      loaded
-      (no-fault (placeOf state) (rw (← turning-place state) turns-on))
-      tt
-      (arming-with armed (low settings t) (not (is 5 state)) true)
-      (asks (next state (Enter Stop)))
-  by-move Stop (Enter OffsetCal) loaded fault apart (calibrates unmeasured no-trip) =
-      rests-law atStop elsewhere true true armed ((armed || low settings t && true) && true)
-      (any (alive (at Stop))) (tripped Stop) (low settings t) (eqb (t .clear) 1) (blocked Stop)
-      (turns (next Stop (Enter OffsetCal))) used (RetryLimit settings)
-      tt tt tt
-      (arming-with armed (low settings t) true true)
-      (asks (next Stop (Enter OffsetCal)))
-  by-move Stop (Enter BtsCharge) loaded fault apart (starts measured is-armed is-high no-trip) =
-      starts-law armed ((armed || low settings t && true) && false) (any (alive (at Stop))) (tripped Stop) (low settings t)
-      (eqb (t .clear) 1) (blocked Stop) (turns (next Stop (Enter BtsCharge))) used (RetryLimit settings)
-      is-armed
-      (disarmed (armed || low settings t && true))
-      no-trip
-      (apart is-high)
-      (asks (next Stop (Enter BtsCharge)))
-  by-move state (Enter after) loaded fault apart (goes-on turns-on on-run no-low no-trip) =
-      let place : placeOf after ≡ atRun = run-place after on-run in
-      let after-armed : Bool = (armed || low settings t && not (is 5 state)) && not (is 3 after || is 5 after) in
-      rw place
-      (runs-law (placeOf state) (not (is 0 state)) (not (is 0 after)) armed after-armed (any (alive (at state))) (tripped state)
-      (low settings t) (eqb (t .clear) 1) (blocked state) (turns (next state (Enter after))) used (RetryLimit settings)
-      loaded
-      (rw (← turning-place state) turns-on)
-      (kept state)
-      no-trip
-      no-low
-      (arming-with armed (low settings t) (not (is 5 state)) (not (is 3 after || is 5 after)))
-      (rw place at (asks (next state (Enter after)))))
-  by-move OffsetCal Measure loaded fault apart (measures done no-trip) =
-      rests-law elsewhere atStop true true armed (armed || low settings t && true) (any (alive (at OffsetCal)))
-      (tripped OffsetCal) (low settings t) (eqb (t .clear) 1) (blocked OffsetCal) (turns (next OffsetCal Measure)) used
-      (RetryLimit settings)
-      tt tt tt
-      (arming armed (low settings t) true)
-      (asks (next OffsetCal Measure))
-  by-move Fault Clear loaded fault apart (clears no-cause clear) =
-      clears-law armed (armed || low settings t && false) (any (alive (at Fault))) (low settings t) (eqb (t .clear) 1)
-      (blocked Fault) (turns (next Fault Clear)) used (RetryLimit settings)
-      (unarmed armed (low settings t) fault)
-      clear
-      no-cause
-      (asks (next Fault Clear))
-  by-move Fault Retry loaded fault apart (tries-again no-cause held mode late room) =
-      retries-law armed (any (alive (at Fault))) (low settings t) (eqb (t .clear) 1) (blocked Fault)
-      (turns (next Fault Retry)) used (up (RetryLimit settings) used) (RetryLimit settings)
-      room
-      (omega (arith, room))
-      held
-      no-cause
-      (asks (next Fault Retry))
+  abbrev pub Obeys : State → Drive → Type 0
+  Obeys state after = Step (inside (at state)) (noteOf state after) (inside after)
 
-  -- the tick itself
-  pub tick-obeys :
-      (state : State)
+  -- what he finds in the tick and the samples
+  abbrev found : Bool
+  found = deadCauseOf settings (hall .dead) || causeOf settings t
+
+  -- a tick by which the drive turns, with no low and no live flag, disturbs nothing
+  undisturbed-by :
+      (state : State) (after : Drive)
+      → T (not (low settings t))
+      → T (not (tripped state))
+      → T (inside after .turning)
+      → T (undisturbed (noteOf state after))
+  unfolding answer
+  undisturbed-by state after no-low calm turns =
+      let runs = shows-running 0 0 after turns in
+      let dark = shows-no-fault 0 0 after turns in
+      let no-cause = contrary found (tripped state) (found-trips (at state) t) calm in
+      search joins
+
+  -- a drive that turned before, with no low and no live flag, turns on
+  turned-before : (state : State) → T (turning state) → T (not (tripped state)) → T (inside (at state) .turning)
+  turned-before state runs calm =
+      yes-and (turning state) (not (any (alive (at state)))) runs
+      (contrary (any (alive (at state))) (tripped state) (stays-with-causes (FaultEnable settings) flags (standing (at state) t)) calm)
+
+  -- a tick that neither starts nor leaves FAULT, and after which nothing turns
+  rests :
+      (state : State) (after : Drive)
       → T (not (is 0 state))
-      → T (not (is 5 state && armed))
-      → (T (high settings t) → T (not (low settings t)))
-      → Obeys state (ticked (at state) t)
-  unfolding ticked
-  tick-obeys state loaded fault apart =
-      by-move state (chosen (at state) t) loaded fault apart (way-of (on state))
+      → T (not (noteOf state after .started))
+      → T (not (noteOf state after .exited))
+      → (T (after .armed) → T (armed || low settings t))
+      → T (not (turning (after .state)))
+      → used ≤ RetryLimit settings
+      → after .settings ≡ settings
+      → after .retries ≡ used
+      → Obeys state after
+  unfolding answer
+  rests state after loaded no-start no-exit arms still within same-settings same =
+      Steps.passes-by (inside (at state)) (noteOf state after) (inside after) (gates-ask 0 0 after) (rw same within) tt no-start no-exit
+      (λ now. loaded)
+      arms
+      (λ now. never (turning (after .state)) still (and-yes (turning (after .state)) (not (any (alive after))) now .0))
+      same
+
+  -- where no live cause stands he finds none
+  no-cause : T (not (alight (at Fault) (standing (at Fault) t))) → T (not found)
+  no-cause = contrary found (alight (at Fault) (standing (at Fault) t)) (found-blocks (at Fault) t)
+
+  module _ (used-few : used ≤ RetryLimit settings) where
+    by-move :
+        (state : State) (move : Move)
+        → T (not (is 0 state))
+        → T (not (is 5 state && armed))
+        → (T (is 5 state) → count ≤ waited)
+        → (T (high settings t) → T (not (low settings t)))
+        → Way (on state) state move
+        → Obeys state (next state move)
+    unfolding answer
+    by-move state Stay loaded fault late apart (stays quiet calm) =
+        let after = next state Stay in
+        Steps.passes-by (inside (at state)) (noteOf state after) (inside after) (gates-ask 0 0 after) used-few
+        tt (starts-none (place state) (high settings t)) (leaves-none (place state))
+        (λ now. now)
+        (arming armed (low settings t) (not (is 5 state)))
+        (λ now.
+        let (runs, dark) = and-yes (turning state) (not (tripped state)) now in
+        yes-and (undisturbed (noteOf state after)) (inside (at state) .turning)
+        (undisturbed-by state after (quiet runs) dark now)
+        (turned-before state runs dark))
+        refl
+    by-move state (Enter Fault) loaded fault late apart (trips free trip) =
+        rests state (next state (Enter Fault)) loaded tt (fails-right (isFault (place state)))
+        (λ now. arming armed (low settings t) (not (is 5 state)) (and-yes (arms (at state) t) false now .0))
+        tt used-few refl refl
+    by-move state (Enter Stop) loaded fault late apart (stops runs is-low calm) =
+        rests state (next state (Enter Stop)) loaded tt
+        (fails-left (isFault (place state)) true (run-leaves-none (place state) (rw (← turning-place state) runs)))
+        (λ now. arming armed (low settings t) (not (is 5 state)) (and-yes (arms (at state) t) true now .0))
+        tt used-few refl refl
+    by-move Stop (Enter OffsetCal) loaded fault late apart (calibrates unmeasured calm) =
+        rests Stop (next Stop (Enter OffsetCal)) tt tt tt
+        (λ now. arming armed (low settings t) true (and-yes (arms (at Stop) t) true now .0))
+        tt used-few refl refl
+    by-move Stop (Enter BtsCharge) loaded fault late apart (starts measured is-armed is-high calm) =
+        let after = next Stop (Enter BtsCharge) in
+        Steps.starts (inside (at Stop)) (noteOf Stop after) (inside after) (gates-ask 0 0 after) used-few
+        tt is-high tt tt is-armed
+        (fails-right (arms (at Stop) t))
+        (undisturbed-by Stop after (apart is-high) calm)
+        refl
+    by-move state (Enter onto) loaded fault late apart (goes-on runs onward no-low calm) =
+        let after = next state (Enter onto) in
+        Steps.passes-by (inside (at state)) (noteOf state after) (inside after) (gates-ask 0 0 after) used-few
+        tt
+        (rw (run-place onto onward) tt)
+        (fails-left (isFault (place state)) (not (isFault (place onto))) (run-leaves-none (place state) (rw (← turning-place state) runs)))
+        (λ now. loaded)
+        (λ now. arming armed (low settings t) (not (is 5 state)) (and-yes (arms (at state) t) (not (is 3 onto || is 5 onto)) now .0))
+        (λ now.
+        yes-and (undisturbed (noteOf state after)) (inside (at state) .turning)
+        (undisturbed-by state after no-low calm now)
+        (turned-before state runs calm))
+        refl
+    by-move OffsetCal Measure loaded fault late apart (measures done calm) =
+        rests OffsetCal (next OffsetCal Measure) tt tt tt (arming armed (low settings t) true) tt used-few refl refl
+    by-move Fault Clear loaded fault late apart (clears free clear) =
+        let after = next Fault Clear in
+        Steps.clears (inside (at Fault)) (noteOf Fault after) (inside after) (gates-ask 0 0 after) zero-le
+        tt tt tt (no-cause free) (λ now. tt) tt clear
+        (unarmed armed (low settings t) fault)
+        refl
+    by-move Fault Retry loaded fault late apart (tries-again free no-clear mode nth room) =
+        let after = next Fault Retry in
+        let before = late tt in
+        Steps.retries (inside (at Fault)) (noteOf Fault after) (inside after) (gates-ask 0 0 after) (omega arith)
+        tt tt tt (no-cause free) (λ now. tt) tt no-clear
+        (yes-and (mode1 settings) (leb 10000 (suc waited)) mode (le→leb 10000 (suc waited) (omega arith)))
+        (omega (arith, room))
+
+    -- the tick itself
+    pub tick-obeys :
+        (state : State)
+        → T (not (is 0 state))
+        → T (not (is 5 state && armed))
+        → (T (is 5 state) → count ≤ waited)
+        → (T (high settings t) → T (not (low settings t)))
+        → Obeys state (ticked (at state) t)
+    unfolding ticked
+    tick-obeys state loaded fault late apart = by-move state (chosen (at state) t) loaded fault late apart (way-of (on state))

@@ -1,4 +1,5 @@
 pub mod Supervised
+pub mod Calls
 pub mod Bench
 pub mod Silence
 pub mod Stream

@@ -1,43 +1,44 @@
 -- Demand 3 is no demand to stand still. Three named runs from power-up: one that turns by a raised command, one that trips and turns again by
--- a timed retry, and one in which a command held high after a clear starts nothing.
+-- a timed retry, and one in which a command held high after a clear starts nothing. The second is the page to show a foreman.
 use Prim.Native.Nat.{ℕ}
-use mathlib.Core.List.{List, [], _∷_, _++_}
-use Rattle.drive.specs.AnyCall.{Call, loads, cycles, ticks}
-use Rattle.drive.specs.Calls.{powerUp}
-use Rattle.drive.specs.declared.Drive.{Drive}
-use Rattle.demands.specs.Bench.{settingsIn, told, quiet, sample, after, times}
+use mathlib.Core.List.{List, [], _∷_, _++_, reverse}
+use Rattle.history.specs.Log.{log}
+use Rattle.history.specs.Onlooker.{notes}
+use Rattle.history.specs.History.{Seen}
+use Rattle.history.specs.Page.{Mark, load, low, cause, retry, start, turns, stands}
+use Rattle.drive.specs.AnyCall.{Call}
+use Rattle.reached.specs.Calls.{machine}
+use Rattle.demands.specs.Calls.{loadedInMode1, high, over, clear, ready, started, times}
+use Rattle.demands.specs.Supervised.{words}
 
--- the example's settings in mode 1, where the command is the control level: low at most 300, high at least 400
-abbrev pub settings1 : List ℕ
-settings1 = settingsIn 1
+-- what the onlooker notes of a list of calls, the newest first
+abbrev pub noted : List Call → List Seen
+noted calls = notes words (log machine calls)
 
--- a low, and a high
-abbrev pub low : Call
-low = ticks (quiet 0 0 2623)
+-- the runs below are lists of calls with the newest first: a start in mode 1 that comes to MOTORRUN, and a trip by over-voltage
+abbrev pub turned : List Call
+turned = reverse (ready loadedInMode1 ++ started 5)
 
-abbrev pub high : Call
-high = ticks (quiet 1 400 2623)
+abbrev pub tripped : List Call
+tripped = over ∷ turned
 
--- a trip by over-voltage, the command still high
-abbrev pub trip : Call
-trip = ticks (quiet 1 400 3001)
+-- n ticks in FAULT, the command held high
+abbrev pub waited : ℕ → List Call
+waited n = times n high ++ tripped
 
--- a clear, the command still high
-abbrev pub clear : Call
-clear = ticks (told 1 1 400 2623 0 0)
+-- the 10,000th tick in FAULT, and one more
+abbrev pub triedAgain : List Call
+triedAgain = high ∷ high ∷ waited 9999
 
--- load, measure the offsets over 64 cycles, let the command be low, raise it, charge for three cycles, and go on to MOTORRUN
-abbrev pub raised : List ℕ → List Call
-raised s = loads s ∷ low ∷ times 64 (cycles sample) ++ (low ∷ low ∷ high ∷ times 3 (cycles sample) ++ times 5 high)
-
--- the same in mode 1, then a trip
-abbrev pub tripped : Drive
-tripped = after powerUp (raised settings1 ++ (trip ∷ []))
-
--- and the wait: n ticks in FAULT, the command held high
-abbrev pub waited : ℕ → Drive
-waited n = after tripped (times n high)
+-- what is to be seen of it
+abbrev pub foremansPage : List (ℕ × Mark)
+foremansPage =
+    (1, load) ∷ (2, low) ∷ (67, low) ∷ (68, low) ∷
+    (69, start) ∷ (69, turns) ∷
+    (78, cause) ∷ (78, stands) ∷
+    (10078, retry) ∷
+    (10079, start) ∷ (10079, turns) ∷ []
 
 -- the trip ended by a clear, and n ticks with the command held high
-abbrev pub held : ℕ → Drive
-held n = after tripped (clear ∷ times n high)
+abbrev pub held : ℕ → List Call
+held n = times n high ++ (clear ∷ tripped)

@@ -1,63 +1,71 @@
--- This drive as the onlooker of demand 3 knows it: from its calls and their answers, and never from its arming flag or its count of retries.
-use mathlib.Core.Bool.{Bool, false, _||_}
-use lib.Dec.{eqb}
+-- This drive as the onlooker of demand 3 knows it: the words of its calls and answers. The numbers here are those of a load, a sample or a
+-- tick, or shown by an answer: nothing is read off the drive's state, and the causes are told by what comes in, not by what the drive says.
+use Prim.Native.Nat.{ℕ}
+use mathlib.Core.Bool.{Bool, not, _&&_, _||_}
+use mathlib.Core.List.{List}
+use lib.Dec.{eqb, ltb}
 use Rattle.numbers.specs.Choose.{pick}
-use Rattle.history.specs.Onlooker.{Place, atStop, atStart, atRun, atFault, elsewhere, Kind, load, tick, other}
-use Rattle.history.specs.Supervisor.{Supervisor}
-use Rattle.settings.specs.Settings.{RetryLimit}
-use Rattle.drive.specs.Command.{low}
-use Rattle.drive.specs.Flags.{any}
-use Rattle.drive.specs.Answer.{alive, gate}
-use Rattle.drive.specs.Calls.{powerUp, alight, standing}
-use Rattle.drive.specs.AnyCall.{Call, loads, cycles, ticks, reply}
-use Rattle.drive.specs.declared.Drive.{Drive}
-use Rattle.states.specs.declared.State.{State}
-use Rattle.states.specs.declared.State.the-variants.{Idle, Stop, OffsetCal, BtsCharge, MotorRun, Fault, CatchSpin, Parking, OpenLoop, AngleSensing}
+use Rattle.numbers.specs.Count.{up}
+use Rattle.history.specs.Onlooker.{Place, atStop, atStart, atRun, atFault, elsewhere, Asked, load, tick, other, Words}
+use Rattle.settings.specs.Settings.{FaultEnable, VdcOvLevel, VdcLvLevel, CriticalOvLevel, Tshutdown, RetryLimit, mode1}
+use Rattle.drive.specs.Command.{low, high}
+use Rattle.drive.specs.Flags.{bit}
+use Rattle.drive.specs.AnyCall.{Call, loads, cycles, ticks}
+use Rattle.drive.specs.declared.answer.Answer.{Answer}
+use Rattle.fields.specs.declared.Tick.{Tick}
 
--- STOP, BTSCHARGE that a start leads to, the other starting and running states 4, 6, 7, 8 and 9, FAULT, and IDLE and OFFSETCAL
-abbrev pub placeOf : State → Place
-placeOf Idle = elsewhere
-placeOf Stop = atStop
-placeOf OffsetCal = elsewhere
-placeOf BtsCharge = atStart
-placeOf MotorRun = atRun
-placeOf Fault = atFault
-placeOf CatchSpin = atRun
-placeOf Parking = atRun
-placeOf OpenLoop = atRun
-placeOf AngleSensing = atRun
+-- "Three calls change the state: load (settings), cycle .. and tick"
+abbrev pub asked : Call → Asked Tick
+asked (loads numbers) = load numbers
+asked (cycles fields) = other
+asked (ticks fields) = tick fields
 
--- the call was accepted: its answer's number is 0
-abbrev pub accepted : Drive → Call → Bool
-accepted d call = eqb (reply d call .answer .number) 0
+-- "0 or 7: dead streak up by one, at most 2"; any other pattern leaves it at zero, and so does a load
+abbrev pub deadAfter : Call → ℕ → ℕ
+deadAfter (loads numbers) dead = 0
+deadAfter (cycles fields) dead = pick (eqb (fields .pattern) 0 || eqb (fields .pattern) 7) (up 2 dead) 0
+deadAfter (ticks fields) dead = dead
 
--- an accepted load; an accepted tick, with whether it held a low command and whether its clear was 1; anything else
-abbrev pub kindOf : Drive → Call → Kind
-kindOf d (loads numbers) = pick (accepted d (loads numbers)) load other
-kindOf d (cycles fields) = other
-kindOf d (ticks fields) = pick (accepted d (ticks fields)) (tick (low (d .settings) fields) (eqb (fields .clear) 1)) other
+-- "1 STOP"; "3 BTSCHARGE", where the start leads; "5 FAULT"; the others of "the six starting and running states (3, 4, 6, 7, 8, 9)"
+abbrev pub placeOf : ℕ → Place
+placeOf n =
+    pick (eqb n 1) atStop
+    (pick (eqb n 3) atStart
+    (pick (eqb n 5) atFault (pick (eqb n 4 || eqb n 6 || eqb n 7 || eqb n 8 || eqb n 9) atRun elsewhere)))
 
--- a live cause stands at a tick
-abbrev pub causeOf : Drive → Call → Bool
-causeOf d (loads numbers) = false
-causeOf d (cycles fields) = false
-causeOf d (ticks fields) = alight d (standing d fields)
+-- "0: gate kill is 1. 1: VdcRaw above CriticalOvLevel. 2: VdcFilt above VdcOvLevel. 3: VdcFilt below VdcLvLevel. 6: temperature above
+-- Tshutdown."; "A flag is live if its FaultEnable bit is 1; 0 and 1 are always live." Bits 4, 7 and 14 stand only in MOTORRUN: no exit
+-- from FAULT needs them, and while the gates turn the live word shows them.
+abbrev pub causeOf : List ℕ → Tick → Bool
+causeOf s t =
+    eqb (t .kill) 1
+    || ltb (CriticalOvLevel s) (t .raw)
+    || ltb (VdcOvLevel s) (t .filtered) && bit 2 (FaultEnable s)
+    || ltb (t .filtered) (VdcLvLevel s) && bit 3 (FaultEnable s)
+    || ltb (Tshutdown s) (t .temperature) && bit 6 (FaultEnable s)
 
--- "gates charge or drive": gates 1 and 2
-abbrev pub turns : Drive → Bool
-turns d = eqb (gate (d .state) (alive d)) 1 || eqb (gate (d .state) (alive d)) 2
+-- "15: dead streak is 2."
+abbrev pub deadCauseOf : List ℕ → ℕ → Bool
+deadCauseOf s dead = eqb dead 2 && bit 15 (FaultEnable s)
 
-abbrev pub supervisor : Supervisor
-supervisor =
+abbrev pub words : Words Call Answer
+words =
     record {
-      State = Drive;
-      Call = Call;
-      powerUp = powerUp;
-      step = λ d call. reply d call .drive;
-      place = λ d. placeOf (d .state);
-      faultStands = λ d. any (alive d);
-      turns = turns;
-      limit = λ d. RetryLimit (d .settings);
-      kind = kindOf;
-      causeStood = causeOf;
+      Tick = Tick;
+      asked = asked;
+      dead = λ s. deadAfter;
+      -- "0 accepted"; "gates charge or drive": gates 1 and 2
+      accepted = λ a. eqb (a .number) 0;
+      place = λ a. placeOf (a .state);
+      faultStands = λ a. not (eqb (a .live) 0);
+      turns = λ a. eqb (a .gate) 1 || eqb (a .gate) 2;
+      low = low;
+      high = high;
+      clear = λ t. eqb (t .clear) 1;
+      cause = causeOf;
+      deadCause = deadCauseOf;
+      -- "in mode 1, from its 10,000th tick on, with fewer than RetryLimit retries used"
+      timed = mode1;
+      limit = RetryLimit;
+      wait = 10000;
     }

@@ -1,10 +1,7 @@
--- Tests joined by "and", "or" and "not", taken apart and put together.
-use mathlib.Core.Bool.{Bool, true, false, not, _&&_, _||_, cond}
+-- Tests joined by "and", "or" and "not", taken apart and put together, where the kit has no law of its own (mir.Facts).
+use mathlib.Core.Bool.{Bool, true, false, not, _||_, cond}
 use lib.Dec.{T, T-not}
-
-pub and : (a b : Bool) → T a → T b → T (a && b)
-and true b p q = q
-and false b p q = p
+use mir.Facts.{yes-and}
 
 pub or-left : (a b : Bool) → T a → T (a || b)
 or-left true b p = tt
@@ -27,10 +24,14 @@ pub nor : (a b : Bool) → T (not a) → T (not b) → T (not (a || b))
 nor true b p q = p
 nor false b p q = q
 
--- a test that would make another fail fails where that one passes
-pub rules-out : (a b : Bool) → (T a → T (not b)) → T b → T (not a)
-rules-out true b f q = T-not b (f tt) q
-rules-out false b f q = tt
+-- what would make another pass fails where that one fails
+pub contrary : (a b : Bool) → (T a → T b) → T (not b) → T (not a)
+contrary true b f q = T-not b q (f tt)
+contrary false b f q = tt
+
+-- a test that fails passes nothing
+pub never : {C : Type 0} (a : Bool) → T (not a) → T a → C
+never a fails passes = absurd (T-not a fails passes)
 
 -- a test passes or fails
 pub cases : {C : Type 0} (a : Bool) → (T a → C) → (T (not a) → C) → C
@@ -43,7 +44,4 @@ cond-cases P true x y f g = f tt
 cond-cases P false x y f g = g tt
 
 -- how joined tests are put together, for `search`
-pub ruleset joins = (and, or-left, or-right, nor)
-
--- a law at a call whose tests are all known: `search computed`
-pub ruleset computed = (joins, absurd)
+pub ruleset joins = (yes-and, or-left, or-right, nor)

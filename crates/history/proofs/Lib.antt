@@ -1,8 +1,8 @@
--- What the crates above cite: the theorem of Demand3; and for the laws of a supervisor, `computed` of Bools and `stays` of Stays.
+-- What the crates above cite: the theorem of Demand3; and for the laws of a supervisor, Steps and Bools.
 pub mod Bools
 pub mod Demand3
-pub mod Stays
+pub mod Steps
 -- Examples, which nothing cites.
 pub mod Toy
-pub mod Sound
 pub mod Teeth
+pub mod Sound

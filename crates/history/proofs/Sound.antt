@@ -1,16 +1,19 @@
--- The sound toy obeys the laws, case by case: at each case every law computes to something plain.
-use Prim.Native.Nat.{ℕ, _<_}
+-- The sound toy obeys the laws, case by case, and so demand 3 holds of it: a second supervisor, with other calls and other words, comes to the
+-- same theorem by its own record of laws.
+use Prim.Native.Nat.{ℕ, suc, _≤_, _<_, zero-le}
+use native.Mathlib.Omega.{arith}
 use mathlib.Core.Path.{_≡_, refl}
 use mathlib.Core.Bool.{Bool, true, false, not}
 use mathlib.Core.List.{List}
-use lib.Dec.{T, ltb}
-use borrow.Author.Tests.{ltb-true}
+use lib.Dec.{T, not-T, ltb, leb}
+use borrow.Author.Tests.{ltb-true, leb-true, le-leb}
+use Rattle.history.specs.Log.{entry, log}
+use Rattle.history.specs.Onlooker.{atStop, atStart, atFault, elsewhere, Memory, remember, note, notes}
 use Rattle.history.specs.History.{Demand3}
-use Rattle.history.specs.Supervisor.{seen, history}
 use Rattle.history.specs.Laws.{Inside, Step, Lawful}
-use Rattle.history.proofs.Bools.{computed}
+use Rattle.history.proofs.Bools.{joins}
 use Rattle.history.proofs.Demand3.{demand3}
-use Rattle.history.proofs.Toy.{Spot, idle, stop, run, fault, Toy, toy, Press, loads, ticks, glitch, halt, sound, supervisor, next, turns}
+use Rattle.history.proofs.Toy.{Spot, idle, stop, run, fault, Toy, toy, Lever, down, middle, up, fields, Press, loads, ticks, glitch, halt, numbers, words, sound, machine, next, turns}
 
 abbrev wasLoaded : Spot → Bool
 wasLoaded idle = false
@@ -19,71 +22,134 @@ wasLoaded run = true
 wasLoaded fault = true
 
 abbrev inside : Toy → Inside
-inside (toy spot armed flag used limit) =
-    record {
-      loaded = wasLoaded spot;
-      armed = armed;
-      turning = turns sound (toy spot armed flag used limit);
-      used = used;
-      limit = limit;
-    }
+inside (toy spot armed flag timed used limit waited) =
+    record { loaded = wasLoaded spot; armed = armed; turning = turns sound (toy spot armed flag timed used limit waited); used = used }
 
--- in FAULT the toy is not armed
-abbrev Good : Toy → Type 0
-Good (toy idle armed flag used limit) = Unit {0}
-Good (toy stop armed flag used limit) = Unit {0}
-Good (toy run armed flag used limit) = Unit {0}
-Good (toy fault armed flag used limit) = T (not armed)
+-- what is known of a state outside IDLE, and of what the onlooker remembers of it
+record Known (flag timed : Bool) (used limit : ℕ) (memory : Memory) : Type 0 where
+  loaded : memory .loaded ≡ numbers timed limit
+  within : used ≤ limit
+  dead : T (ltb 1 (memory .dead)) → T flag
+
+abbrev Good : Toy → Memory → Type 0
+Good (toy idle armed flag timed used limit waited) memory = (memory .shown ≡ elsewhere) × T (not armed) × (used ≡ 0)
+Good (toy stop armed flag timed used limit waited) memory = (memory .shown ≡ atStop) × Known flag timed used limit memory
+Good (toy run armed flag timed used limit waited) memory = (memory .shown ≡ atStart) × Known flag timed used limit memory
+Good (toy fault armed flag timed used limit waited) memory =
+    (memory .shown ≡ atFault) × Known flag timed used limit memory × T (not armed) × (waited ≤ memory .waited)
 
 -- a call obeys the laws and leaves a good state
-abbrev Obeys : Toy → Press → Type 0
-Obeys state call = Step (inside state) (seen (supervisor sound) state call) (inside (next sound state call)) × Good (next sound state call)
+record Done (state : Toy) (memory : Memory) (call : Press) : Type 0 where
+  good : Good (next sound state call) (remember words memory (entry (machine sound) state call))
+  obeys : Step (inside state) (note words memory (entry (machine sound) state call)) (inside (next sound state call))
 
--- a tick in FAULT with neither cause nor clear: a retry, where there is room for it
-retries : (flag low room : Bool) (used limit : ℕ) → ltb used limit ≡ room → Obeys (toy fault false flag used limit) (ticks false false low)
-retries flag low true used limit e = let room : used < limit = ltb-true used limit e in rw e (search computed, tt)
-retries flag low false used limit e = rw e (search computed, tt)
+-- a law at a call whose tests are all known
+ruleset computed = (joins, absurd, zero-le)
 
-obeys : (state : Toy) → Good state → (call : Press) → Obeys state call
-obeys (toy idle armed flag used limit) good (loads most) = (search computed, tt)
-obeys (toy idle armed flag used limit) good (ticks cause clear low) = (search computed, tt)
-obeys (toy idle armed flag used limit) good glitch = (search computed, tt)
-obeys (toy idle armed flag used limit) good halt = (search computed, tt)
-obeys (toy stop armed flag used limit) good (loads most) = (search computed, tt)
-obeys (toy stop armed true used limit) good (ticks cause clear low) = (search computed, tt)
-obeys (toy stop armed false used limit) good (ticks true clear low) = (search computed, tt)
-obeys (toy stop armed false used limit) good (ticks false clear true) = (search computed, tt)
-obeys (toy stop true false used limit) good (ticks false clear false) = (search computed, tt)
-obeys (toy stop false false used limit) good (ticks false clear false) = (search computed, tt)
-obeys (toy stop armed flag used limit) good glitch = (search computed, tt)
-obeys (toy stop armed flag used limit) good halt = (search computed, tt)
-obeys (toy run armed true used limit) good (loads most) = (search computed, tt)
-obeys (toy run armed false used limit) good (loads most) = (search computed, tt)
-obeys (toy run armed true used limit) good (ticks cause clear low) = (search computed, tt)
-obeys (toy run armed false used limit) good (ticks true clear low) = (search computed, tt)
-obeys (toy run armed false used limit) good (ticks false clear true) = (search computed, tt)
-obeys (toy run armed false used limit) good (ticks false clear false) = (search computed, tt)
-obeys (toy run armed flag used limit) good glitch = (search computed, tt)
-obeys (toy run armed flag used limit) good halt = (search computed, tt)
-obeys (toy fault true flag used limit) good call = absurd good
-obeys (toy fault false flag used limit) good (loads most) = (search computed, tt)
-obeys (toy fault false flag used limit) good (ticks true clear low) = (search computed, tt)
-obeys (toy fault false flag used limit) good (ticks false true low) = (search computed, tt)
-obeys (toy fault false flag used limit) good (ticks false false low) = retries flag low (ltb used limit) used limit refl
-obeys (toy fault false flag used limit) good glitch = (search computed, tt)
-obeys (toy fault false flag used limit) good halt = (search computed, tt)
+-- neither cause nor clear: a retry, where retries are timed, one is due and there is room for it
+waits :
+    (timed flag due room : Bool) (used limit waited : ℕ) (memory : Memory) (lever : Lever)
+    → memory .shown ≡ atFault
+    → memory .loaded ≡ numbers timed limit
+    → used ≤ limit
+    → suc waited ≤ suc (memory .waited)
+    → leb 2 (suc waited) ≡ due
+    → ltb used limit ≡ room
+    → Done (toy fault false flag timed used limit waited) memory (ticks (fields false false lever))
+waits false flag due room used limit waited memory lever at loaded within later is-due is-room = rw (at, loaded) (search computed)
+waits true flag false room used limit waited memory lever at loaded within later is-due is-room =
+    rw (at, loaded) (record { good = rw is-due (search computed); obeys = rw is-due (search computed) })
+waits true flag true false used limit waited memory lever at loaded within later is-due is-room =
+    rw (at, loaded) (record { good = rw (is-due, is-room) (search computed); obeys = rw (is-due, is-room) (search computed) })
+waits true flag true true used limit waited memory lever at loaded within later is-due is-room =
+    let free : used < limit = ltb-true used limit is-room in
+    let noted : leb 2 (suc (memory .waited)) ≡ true = le-leb 2 (suc (memory .waited)) (omega (arith, leb-true 2 (suc waited) is-due)) in
+    rw (at, loaded) (record { good = rw (is-due, is-room) (search computed); obeys = simp (is-due, is-room, noted) (search computed) })
 
-lawful : Lawful (supervisor sound)
+module _ (timed : Bool) (used limit waited : ℕ) (memory : Memory) where
+  in-idle :
+      (flag : Bool)
+      → memory .shown ≡ elsewhere
+      → used ≡ 0
+      → (call : Press)
+      → Done (toy idle false flag timed used limit waited) memory call
+  in-idle flag at none (loads retry most) = rw (at, none) (search computed)
+  in-idle flag at none (ticks f) = rw (at, none) (search computed)
+  in-idle flag at none glitch = rw (at, none) (search computed)
+  in-idle flag at none halt = rw (at, none) (search computed)
+
+  in-stop :
+      (armed flag : Bool)
+      → memory .shown ≡ atStop
+      → Known flag timed used limit memory
+      → (call : Press)
+      → Done (toy stop armed flag timed used limit waited) memory call
+  in-stop armed flag at known (loads retry most) = rw (at, known .loaded) (search computed)
+  in-stop armed true at known (ticks (fields cause clear lever)) = rw (at, known .loaded) (search computed)
+  in-stop armed false at known (ticks (fields true clear lever)) = rw (at, known .loaded) (search computed)
+  in-stop armed false at known (ticks (fields false clear down)) = rw (at, known .loaded) (search computed)
+  in-stop armed false at known (ticks (fields false clear middle)) = rw (at, known .loaded) (search computed)
+  in-stop true false at known (ticks (fields false clear up)) = rw (at, known .loaded) (search computed)
+  in-stop false false at known (ticks (fields false clear up)) = rw (at, known .loaded) (search computed)
+  in-stop armed flag at known glitch = rw (at, known .loaded) (search computed)
+  in-stop armed flag at known halt = let dead = known .dead in rw (at, known .loaded) (search computed)
+
+  in-run :
+      (armed flag : Bool)
+      → memory .shown ≡ atStart
+      → Known flag timed used limit memory
+      → (call : Press)
+      → Done (toy run armed flag timed used limit waited) memory call
+  in-run armed true at known (loads retry most) = rw (at, known .loaded) (search computed)
+  in-run armed false at known (loads retry most) =
+      let dead = known .dead in
+      let calm = not-T (ltb 1 (memory .dead)) dead in
+      rw (at, known .loaded) (search computed)
+  in-run armed true at known (ticks (fields cause clear lever)) = rw (at, known .loaded) (search computed)
+  in-run armed false at known (ticks (fields true clear lever)) = rw (at, known .loaded) (search computed)
+  in-run armed false at known (ticks (fields false clear down)) = rw (at, known .loaded) (search computed)
+  in-run armed false at known (ticks (fields false clear middle)) = rw (at, known .loaded) (search computed)
+  in-run armed false at known (ticks (fields false clear up)) = rw (at, known .loaded) (search computed)
+  in-run armed true at known glitch = rw (at, known .loaded) (search computed)
+  in-run armed false at known glitch = rw (at, known .loaded) (search computed)
+  in-run armed flag at known halt = let dead = known .dead in rw (at, known .loaded) (search computed)
+
+  in-fault :
+      (flag : Bool)
+      → memory .shown ≡ atFault
+      → Known flag timed used limit memory
+      → waited ≤ memory .waited
+      → (call : Press)
+      → Done (toy fault false flag timed used limit waited) memory call
+  in-fault flag at known late (loads retry most) = let dead = known .dead in rw (at, known .loaded) (search computed)
+  in-fault flag at known late (ticks (fields true clear lever)) =
+      let later : suc waited ≤ suc (memory .waited) = omega arith in rw (at, known .loaded) (search computed)
+  in-fault flag at known late (ticks (fields false true lever)) = rw (at, known .loaded) (search computed)
+  in-fault flag at known late (ticks (fields false false lever)) =
+      waits timed flag (leb 2 (suc waited)) (ltb used limit) used limit waited memory lever at (known .loaded) (known .within) (omega arith) refl refl
+  in-fault flag at known late glitch = rw (at, known .loaded) (search computed)
+  in-fault flag at known late halt = let dead = known .dead in rw (at, known .loaded) (search computed)
+
+done : (state : Toy) (memory : Memory) → Good state memory → (call : Press) → Done state memory call
+done (toy idle true flag timed used limit waited) memory good call = absurd (good .1)
+done (toy idle false flag timed used limit waited) memory good call = in-idle timed used limit waited memory flag (good .0) (good .2) call
+done (toy stop armed flag timed used limit waited) memory good call = in-stop timed used limit waited memory armed flag (good .0) (good .1) call
+done (toy run armed flag timed used limit waited) memory good call = in-run timed used limit waited memory armed flag (good .0) (good .1) call
+done (toy fault true flag timed used limit waited) memory good call = absurd (good .2)
+done (toy fault false flag timed used limit waited) memory good call =
+    in-fault timed used limit waited memory flag (good .0) (good .1) (good .3) call
+
+lawful : Lawful (machine sound) words
 lawful =
     record {
       inside = inside;
       Good = Good;
-      good-at-power-up = tt;
-      good-after = λ state good call. obeys state good call .1;
-      asleep = record { not-loaded = tt; not-armed = tt; not-turning = tt; none-used = refl; no-limit = refl };
-      obeys = λ state good call. obeys state good call .0;
+      good-at-power-up = (refl, tt, refl);
+      good-after = λ state memory good call. done state memory good call .good;
+      asleep-at-power-up = refl;
+      obeys = λ state memory good call. done state memory good call .obeys;
     }
 
 -- So demand 3 holds of the sound toy.
-pub toy-demand3 : (calls : List Press) → Demand3 (history (supervisor sound) calls)
-toy-demand3 = demand3 (supervisor sound) lawful
+pub toy-demand3 : (calls : List Press) → Demand3 (notes words (log (machine sound) calls))
+toy-demand3 = demand3 (machine sound) words lawful

@@ -1,34 +1,48 @@
 -- The rule has teeth: it is no escape by silence, for the sound toy does turn; and each bad habit breaks it, on calls that are
 -- written out. antt computes each verdict.
-use Prim.Native.Nat.{ℕ}
 use mathlib.Core.Path.{_≡_, refl}
 use mathlib.Core.Bool.{Bool, true, false, not, _&&_}
 use mathlib.Core.List.{List, [], _∷_, reverse}
-use Rattle.history.specs.History.{Seen, lowSince, retrySince, everLoaded, permitted, startTaken, beforeStart, running, gatesRule, exitRule, retries, loadedLimit, retryRule, holdsAfter, holds}
-use Rattle.history.specs.Supervisor.{stateAfter, history}
-use Rattle.history.proofs.Toy.{Press, loads, ticks, glitch, halt, supervisor, sound, startsUnarmed, loadKeepsArmed, startKeepsArmed, tripKeepsArmed, armsInFault, leavesWithCause, retriesForEver, raisesItsLimit, ignoresLow, drivesWithFault, forgetsFault, drivesInStop, loadsInRun, wakesInStop, saysStop}
+use Rattle.history.specs.Log.{stateAfter, log}
+use Rattle.history.specs.Onlooker.{memoryOf, notes}
+use Rattle.history.specs.History.{Seen, lowSince, retrySince, everLoaded, permitted, startTaken, beforeStart, gatesRule, retries, retryRule, holds}
+use Rattle.history.proofs.Toy.{down, middle, up, fields, Press, loads, ticks, glitch, halt, words, Habit, machine, sound, startsUnarmed, startsInTheMiddle, loadKeepsArmed, startKeepsArmed, tripKeepsArmed, armsInFault, wakesInStop, leavesWithCause, leavesInASample, leavesByALoad, retriesAtOnce, retriesUntimed, retriesForEver, raisesItsLimit, storesMore, ignoresLow, ignoresCause, ignoresSamples, drivesWithFault, forgetsFault, drivesInStop, loadsInRun, saysStop, tripsInSilence, nods}
 
--- ---- ticks by name
+-- ---- calls by name
+
+-- loads that allow no retry, and one
+abbrev plain : Press
+plain = loads false 0
+
+abbrev once : Press
+once = loads true 1
 
 abbrev low : Press
-low = ticks false false true
+low = ticks (fields false false down)
+
+abbrev neither : Press
+neither = ticks (fields false false middle)
 
 abbrev high : Press
-high = ticks false false false
+high = ticks (fields false false up)
 
 abbrev trip : Press
-trip = ticks true false false
+trip = ticks (fields true false up)
 
 abbrev clear : Press
-clear = ticks false true false
+clear = ticks (fields false true up)
 
 abbrev clearWithLow : Press
-clearWithLow = ticks false true true
+clearWithLow = ticks (fields false true down)
 
 abbrev clearWithCause : Press
-clearWithCause = ticks true true false
+clearWithCause = ticks (fields true true up)
 
 -- ---- the rule is no escape by silence
+
+-- what was noted of the calls, which here stand in the order in which they are made
+abbrev noted : Habit → List Press → List Seen
+noted habit calls = notes words (log (machine habit) (reverse calls))
 
 -- the gates charge or drive after the newest call
 abbrev turnsNow : List Seen → Bool
@@ -36,64 +50,85 @@ turnsNow [] = false
 turnsNow (call ∷ past) = call .turns
 
 -- by a raised command
-turns-by-command : turnsNow (history (supervisor sound) (reverse (loads 1 ∷ low ∷ high ∷ []))) ≡ true
-unfolding history stateAfter
+turns-by-command : turnsNow (noted sound (plain ∷ low ∷ high ∷ [])) ≡ true
+unfolding log notes stateAfter memoryOf
 turns-by-command = refl
 
 -- by a retry, with no low at all
-turns-by-retry : turnsNow (history (supervisor sound) (reverse (loads 1 ∷ trip ∷ high ∷ high ∷ []))) ≡ true
-unfolding history stateAfter
+turns-by-retry : turnsNow (noted sound (once ∷ trip ∷ high ∷ high ∷ high ∷ [])) ≡ true
+unfolding log notes stateAfter memoryOf
 turns-by-retry = refl
 
 -- ---- each bad habit breaks the rule
 
--- a habit, and calls that show it, in the order in which they are made
+-- a habit, and calls that show it
 abbrev Row : Type 0
-Row = ℕ × List Press
+Row = Habit × List Press
 
--- the rule holds up to the newest call, and not after it
+-- the rule holds up to the newest call, and not with it
 abbrev breaksNow : List Seen → Bool
 breaksNow [] = false
-breaksNow (call ∷ past) = holds past && not (holdsAfter call past)
+breaksNow (call ∷ past) = holds past && not (holds (call ∷ past))
 
 abbrev breaks : Row → Bool
-breaks row = breaksNow (history (supervisor (row .0)) (reverse (row .1)))
+breaks row = breaksNow (noted (row .0) (row .1))
 
-abbrev allBreak : List Row → Bool
-allBreak [] = true
-allBreak (row ∷ rows) = breaks row && allBreak rows
+-- a toy without the habit does the same calls without breaking it
+abbrev spares : Row → Bool
+spares row = holds (noted sound (row .1))
+
+abbrev all : (Row → Bool) → List Row → Bool
+all test [] = true
+all test (row ∷ rows) = test row && all test rows
 
 abbrev rows : List Row
 rows =
-    -- a command already high after a load is no start
-    (startsUnarmed, loads 0 ∷ high ∷ []) ∷
+    -- a command already high after a load is no start, and neither is one that is not high
+    (startsUnarmed, plain ∷ high ∷ []) ∷
+    (startsInTheMiddle, plain ∷ low ∷ neither ∷ []) ∷
     -- a low, or a retry, before the load does not count
-    (loadKeepsArmed, loads 0 ∷ low ∷ loads 0 ∷ high ∷ []) ∷
-    (loadKeepsArmed, loads 1 ∷ trip ∷ high ∷ loads 1 ∷ high ∷ []) ∷
+    (loadKeepsArmed, plain ∷ low ∷ plain ∷ high ∷ []) ∷
+    (loadKeepsArmed, once ∷ trip ∷ high ∷ high ∷ once ∷ high ∷ []) ∷
     -- one low, or one retry, is good for one start
-    (startKeepsArmed, loads 0 ∷ low ∷ high ∷ halt ∷ high ∷ []) ∷
-    (startKeepsArmed, loads 1 ∷ trip ∷ high ∷ high ∷ halt ∷ high ∷ []) ∷
+    (startKeepsArmed, plain ∷ low ∷ high ∷ halt ∷ high ∷ []) ∷
+    (startKeepsArmed, once ∷ trip ∷ high ∷ high ∷ high ∷ halt ∷ high ∷ []) ∷
     -- a low before the trip, in FAULT or in the tick that leaves it does not count
-    (tripKeepsArmed, loads 0 ∷ low ∷ trip ∷ clear ∷ high ∷ []) ∷
-    (armsInFault, loads 0 ∷ trip ∷ low ∷ clear ∷ high ∷ []) ∷
-    (armsInFault, loads 0 ∷ trip ∷ clearWithLow ∷ high ∷ []) ∷
-    -- no exit from FAULT, cleared or retried, while a cause stands
-    (leavesWithCause, loads 0 ∷ trip ∷ clearWithCause ∷ []) ∷
-    (leavesWithCause, loads 1 ∷ trip ∷ trip ∷ []) ∷
-    -- no more retries than the load allowed
-    (retriesForEver, loads 1 ∷ trip ∷ high ∷ trip ∷ high ∷ []) ∷
-    (raisesItsLimit, loads 1 ∷ trip ∷ high ∷ trip ∷ high ∷ []) ∷
-    -- what ends a run ends it
-    (ignoresLow, loads 0 ∷ low ∷ high ∷ low ∷ []) ∷
-    (drivesWithFault, loads 0 ∷ low ∷ high ∷ glitch ∷ []) ∷
-    (forgetsFault, loads 0 ∷ low ∷ high ∷ glitch ∷ high ∷ []) ∷
-    (saysStop, loads 0 ∷ low ∷ high ∷ halt ∷ []) ∷
-    (loadsInRun, loads 0 ∷ low ∷ high ∷ loads 0 ∷ []) ∷
-    -- no turning without a start, and no start without a load
-    (drivesInStop, loads 0 ∷ []) ∷
+    (tripKeepsArmed, plain ∷ low ∷ trip ∷ clear ∷ high ∷ []) ∷
+    (armsInFault, plain ∷ trip ∷ low ∷ clear ∷ high ∷ []) ∷
+    (armsInFault, plain ∷ trip ∷ clearWithLow ∷ high ∷ []) ∷
+    -- no start without a load
     (wakesInStop, low ∷ high ∷ []) ∷
+    -- no exit from FAULT, cleared or retried, while a cause stands, and none but at a tick
+    (leavesWithCause, plain ∷ trip ∷ clearWithCause ∷ []) ∷
+    (leavesWithCause, once ∷ trip ∷ trip ∷ trip ∷ []) ∷
+    (leavesInASample, plain ∷ trip ∷ glitch ∷ []) ∷
+    (leavesByALoad, plain ∷ trip ∷ plain ∷ []) ∷
+    -- a retry is timed: not before its time, and not in a mode that has none
+    (retriesAtOnce, once ∷ trip ∷ high ∷ []) ∷
+    (retriesUntimed, loads false 1 ∷ trip ∷ high ∷ high ∷ []) ∷
+    -- no more retries than the load allowed
+    (retriesForEver, once ∷ trip ∷ high ∷ high ∷ trip ∷ high ∷ high ∷ []) ∷
+    (raisesItsLimit, once ∷ trip ∷ high ∷ high ∷ trip ∷ high ∷ high ∷ []) ∷
+    (storesMore, once ∷ trip ∷ high ∷ high ∷ trip ∷ high ∷ high ∷ []) ∷
+    -- what ends a run ends it: a low, a live cause, dead samples, a live fault, a load, a stop
+    (ignoresLow, plain ∷ low ∷ high ∷ low ∷ []) ∷
+    (ignoresCause, plain ∷ low ∷ high ∷ trip ∷ []) ∷
+    (ignoresSamples, plain ∷ low ∷ high ∷ glitch ∷ glitch ∷ []) ∷
+    (drivesWithFault, plain ∷ low ∷ high ∷ glitch ∷ []) ∷
+    (forgetsFault, plain ∷ low ∷ high ∷ glitch ∷ high ∷ []) ∷
+    (loadsInRun, plain ∷ low ∷ high ∷ plain ∷ []) ∷
+    (saysStop, plain ∷ low ∷ high ∷ halt ∷ []) ∷
+    -- and so does any other state, though neither a flag nor STOP was ever shown
+    (tripsInSilence, plain ∷ low ∷ high ∷ trip ∷ high ∷ []) ∷
+    (nods, plain ∷ low ∷ high ∷ halt ∷ halt ∷ []) ∷
+    -- no turning without a start
+    (drivesInStop, plain ∷ []) ∷
     []
 
-pub each-habit-breaks-the-rule : allBreak rows ≡ true
-unfolding history stateAfter holds holdsAfter running gatesRule exitRule retryRule retries loadedLimit startTaken beforeStart permitted everLoaded lowSince retrySince
+pub each-habit-breaks-the-rule : all breaks rows ≡ true
+unfolding log notes stateAfter memoryOf holds gatesRule retryRule retries startTaken beforeStart permitted everLoaded lowSince retrySince
 each-habit-breaks-the-rule = refl
+
+pub the-sound-toy-keeps-it : all spares rows ≡ true
+unfolding log notes stateAfter memoryOf holds gatesRule retryRule retries startTaken beforeStart permitted everLoaded lowSince retrySince
+the-sound-toy-keeps-it = refl

@@ -1,165 +1,251 @@
 -- A toy supervisor with four states, in a sound make and in makes that each have one bad habit.
-use Prim.Native.Nat.{ℕ, suc}
+use Prim.Native.Nat.{ℕ, suc, _+_}
 use mathlib.Core.Bool.{Bool, true, false, not, _&&_, _||_, cond}
-use lib.Dec.{eqb, ltb}
-use Rattle.history.specs.Onlooker.{Place, atStop, atStart, atFault, elsewhere, Kind, load, tick, other}
-use Rattle.history.specs.Supervisor.{Supervisor}
+use mathlib.Core.List.{List, [], _∷_}
+use lib.Dec.{eqb, ltb, leb}
+use lib.ListN.{getD}
+use Rattle.history.specs.Log.{Machine}
+use Rattle.history.specs.Onlooker.{Place, atStop, atStart, atFault, elsewhere, Asked, load, tick, other, Words}
 
 -- IDLE, STOP, RUN and FAULT
 pub data Spot : Type 0 where
   idle stop run fault : Spot
 
--- where it stands, whether it is armed, whether a live fault stands, the retries used and their limit
+-- where it stands; whether it is armed, a live fault stands, timed retries are allowed; the retries used, their limit, the ticks in FAULT
 pub data Toy : Type 0 where
-  toy : Spot → (armed flag : Bool) → (used limit : ℕ) → Toy
+  toy : Spot → (armed flag timed : Bool) → (used limit waited : ℕ) → Toy
+
+-- what the command is: low, neither, high
+pub data Lever : Type 0 where
+  down middle up : Lever
+
+-- a tick: a live cause stands, the clear is 1, the command
+pub data Fields : Type 0 where
+  fields : (cause clear : Bool) → Lever → Fields
 
 -- the calls
 pub data Press : Type 0 where
-  -- a load with its retry limit
-  loads : ℕ → Press
-  -- a tick: a live cause stands, the clear is 1, the command is low (else it is high)
-  ticks : (cause clear low : Bool) → Press
-  -- a live flag is set between two ticks
+  -- a load: whether timed retries are allowed, and how many
+  loads : Bool → ℕ → Press
+  ticks : Fields → Press
+  -- a dead sample: it sets a live flag, and two in a row are a live cause
   glitch : Press
   -- a stop that is no low
   halt : Press
 
--- The bad habits, by number; each says what a toy with it does that it should not. The sound toy has none.
-abbrev pub sound : ℕ
-sound = 0
+-- the answers
+pub record Shown : Type 0 where
+  pub accepted : Bool
+  pub place : Place
+  pub flag : Bool
+  pub gates : Bool
 
-abbrev pub startsUnarmed : ℕ
-startsUnarmed = 1
+-- ---- its words
 
-abbrev pub loadKeepsArmed : ℕ
-loadKeepsArmed = 2
+abbrev pub isDown : Lever → Bool
+isDown down = true
+isDown middle = false
+isDown up = false
 
-abbrev pub startKeepsArmed : ℕ
-startKeepsArmed = 3
+abbrev pub isUp : Lever → Bool
+isUp down = false
+isUp middle = false
+isUp up = true
 
-abbrev pub tripKeepsArmed : ℕ
-tripKeepsArmed = 4
+abbrev pub numbers : Bool → ℕ → List ℕ
+numbers timed most = cond timed 1 0 ∷ most ∷ []
 
-abbrev pub armsInFault : ℕ
-armsInFault = 5
+abbrev pub asked : Press → Asked Fields
+asked (loads timed most) = load (numbers timed most)
+asked (ticks f) = tick f
+asked glitch = other
+asked halt = other
 
-abbrev pub leavesWithCause : ℕ
-leavesWithCause = 6
+abbrev pub deadAfter : Press → ℕ → ℕ
+deadAfter (loads timed most) dead = 0
+deadAfter (ticks f) dead = 0
+deadAfter glitch dead = suc dead
+deadAfter halt dead = dead
 
-abbrev pub retriesForEver : ℕ
-retriesForEver = 7
+abbrev pub isLow : Fields → Bool
+isLow (fields cause clear lever) = isDown lever
 
-abbrev pub raisesItsLimit : ℕ
-raisesItsLimit = 8
+abbrev pub isHigh : Fields → Bool
+isHigh (fields cause clear lever) = isUp lever
 
-abbrev pub ignoresLow : ℕ
-ignoresLow = 9
+abbrev pub isClear : Fields → Bool
+isClear (fields cause clear lever) = clear
 
-abbrev pub drivesWithFault : ℕ
-drivesWithFault = 10
+abbrev pub isCause : Fields → Bool
+isCause (fields cause clear lever) = cause
 
-abbrev pub forgetsFault : ℕ
-forgetsFault = 11
+abbrev pub words : Words Press Shown
+words =
+    record {
+      Tick = Fields;
+      asked = asked;
+      dead = λ s. deadAfter;
+      accepted = λ a. a .accepted;
+      place = λ a. a .place;
+      faultStands = λ a. a .flag;
+      turns = λ a. a .gates;
+      low = λ s. isLow;
+      high = λ s. isHigh;
+      clear = isClear;
+      cause = λ s. isCause;
+      deadCause = λ s dead. ltb 1 dead;
+      timed = λ s. eqb (getD s 0 0) 1;
+      limit = λ s. getD s 1 0;
+      wait = 2;
+    }
 
-abbrev pub drivesInStop : ℕ
-drivesInStop = 12
+-- ---- the makes
 
-abbrev pub loadsInRun : ℕ
-loadsInRun = 13
+-- The bad habits; each says what a toy with it does that it should not.
+pub data Habit : Type 0 where
+  sound : Habit
+  -- starts that nothing permits
+  startsUnarmed startsInTheMiddle loadKeepsArmed startKeepsArmed tripKeepsArmed armsInFault wakesInStop : Habit
+  -- exits from FAULT that must not be
+  leavesWithCause leavesInASample leavesByALoad retriesAtOnce retriesUntimed retriesForEver raisesItsLimit storesMore : Habit
+  -- turning when it must not
+  ignoresLow ignoresCause ignoresSamples drivesWithFault forgetsFault drivesInStop loadsInRun saysStop tripsInSilence nods : Habit
 
-abbrev pub wakesInStop : ℕ
-wakesInStop = 14
+abbrev number : Habit → ℕ
+number sound = 0
+number startsUnarmed = 1
+number startsInTheMiddle = 2
+number loadKeepsArmed = 3
+number startKeepsArmed = 4
+number tripKeepsArmed = 5
+number armsInFault = 6
+number wakesInStop = 7
+number leavesWithCause = 8
+number leavesInASample = 9
+number leavesByALoad = 10
+number retriesAtOnce = 11
+number retriesUntimed = 12
+number retriesForEver = 13
+number raisesItsLimit = 14
+number storesMore = 15
+number ignoresLow = 16
+number ignoresCause = 17
+number ignoresSamples = 18
+number drivesWithFault = 19
+number forgetsFault = 20
+number drivesInStop = 21
+number loadsInRun = 22
+number saysStop = 23
+number tripsInSilence = 24
+number nods = 25
 
-abbrev pub saysStop : ℕ
-saysStop = 15
-
-module _ (habit : ℕ) where
-  abbrev has : ℕ → Bool
-  has bad = eqb habit bad
+module _ (habit : Habit) where
+  abbrev has : Habit → Bool
+  has bad = eqb (number habit) (number bad)
 
   -- in STOP, with no live fault: a low arms, and a high starts what is armed
-  abbrev inStop : (armed low : Bool) → (used limit : ℕ) → Toy
-  inStop armed true used limit = toy stop true false used limit
-  inStop armed false used limit =
-      cond (armed || has startsUnarmed) (toy run (has startKeepsArmed && armed) false used limit) (toy stop armed false used limit)
+  abbrev inStop : (armed timed : Bool) → Lever → (used limit : ℕ) → Toy
+  inStop armed timed down used limit = toy stop true false timed used limit 0
+  inStop armed timed middle used limit =
+      cond (has startsInTheMiddle && armed) (toy run false false timed used limit 0) (toy stop armed false timed used limit 0)
+  inStop armed timed up used limit =
+      cond (armed || has startsUnarmed) (toy run (has startKeepsArmed && armed) false timed used limit 0) (toy stop armed false timed used limit 0)
 
-  -- in FAULT, with no cause: a clear, or else a retry where there is room for one; the retry waits for no time here
-  abbrev inFault : (armed clear : Bool) → (used limit : ℕ) → Toy
-  inFault armed true used limit = toy stop armed false 0 limit
-  inFault armed false used limit =
-      cond (ltb used limit || has retriesForEver) (toy stop true false (suc used) (cond (has raisesItsLimit) (suc limit) limit))
-      (toy fault armed true used limit)
+  -- in RUN, with no live fault: a low stops, and arms
+  abbrev inRun : (armed timed : Bool) → Lever → (used limit : ℕ) → Toy
+  inRun armed timed down used limit =
+      cond (has ignoresLow) (toy run armed false timed used limit 0) (toy stop true false timed used limit 0)
+  inRun armed timed middle used limit = toy run armed false timed used limit 0
+  inRun armed timed up used limit = toy run armed false timed used limit 0
+
+  -- in FAULT, with no cause: a clear, or else a timed retry where there is room for one
+  abbrev inFault : (armed timed clear : Bool) → (used limit waited : ℕ) → Toy
+  inFault armed timed true used limit waited = toy stop armed false timed 0 limit 0
+  inFault armed timed false used limit waited =
+      cond
+      ((timed || has retriesUntimed) && (leb 2 waited || has retriesAtOnce) && (ltb used limit || has retriesForEver))
+      (toy stop true false timed (suc used) (cond (has raisesItsLimit) (suc limit) limit) 0)
+      (toy fault armed true timed used limit waited)
+
+  abbrev loaded : (armed timed : Bool) → ℕ → Toy
+  loaded armed timed most = toy stop armed false timed 0 (cond (has storesMore) (3 + most) most) 0
 
   -- one call
   abbrev pub next : Toy → Press → Toy
-  next (toy idle armed flag used limit) (loads most) = toy stop false false 0 most
-  next (toy stop armed flag used limit) (loads most) = toy stop (has loadKeepsArmed && armed) false 0 most
-  next (toy run armed flag used limit) (loads most) = cond (has loadsInRun) (toy run armed false 0 most) (toy run armed flag used limit)
-  next (toy fault armed flag used limit) (loads most) = toy fault armed flag used limit
-  next (toy idle armed flag used limit) (ticks cause clear low) = toy idle armed flag used limit
-  next (toy stop armed flag used limit) (ticks cause clear low) =
-      cond (flag || cause) (toy fault (has tripKeepsArmed && (armed || low)) true used limit) (inStop armed low used limit)
-  next (toy run armed flag used limit) (ticks cause clear low) =
-      cond (flag && not (has forgetsFault) || cause) (toy fault false true used limit)
-      (cond (low && not (has ignoresLow)) (toy stop true false used limit) (toy run armed false used limit))
-  next (toy fault armed flag used limit) (ticks cause clear low) =
-      cond (cause && not (has leavesWithCause)) (toy fault armed true used limit) (inFault (armed || has armsInFault && low) clear used limit)
-  next (toy idle armed flag used limit) glitch = toy idle armed flag used limit
-  next (toy stop armed flag used limit) glitch = toy stop armed true used limit
-  next (toy run armed flag used limit) glitch = toy run armed true used limit
-  next (toy fault armed flag used limit) glitch = toy fault armed true used limit
-  next (toy idle armed flag used limit) halt = toy idle armed flag used limit
-  next (toy stop armed flag used limit) halt = toy stop armed flag used limit
-  next (toy run armed flag used limit) halt = cond (has saysStop) (toy run true flag used limit) (toy stop armed flag used limit)
-  next (toy fault armed flag used limit) halt = toy fault armed flag used limit
+  next (toy idle armed flag timed used limit waited) (loads retry most) = loaded false retry most
+  next (toy stop armed flag timed used limit waited) (loads retry most) = loaded (has loadKeepsArmed && armed) retry most
+  next (toy run armed flag timed used limit waited) (loads retry most) =
+      cond (has loadsInRun) (toy run armed false retry 0 most 0) (toy run armed flag timed used limit waited)
+  next (toy fault armed flag timed used limit waited) (loads retry most) =
+      cond (has leavesByALoad) (loaded false retry most) (toy fault armed flag timed used limit waited)
+  next (toy idle armed flag timed used limit waited) (ticks f) = toy idle armed flag timed used limit waited
+  next (toy stop armed flag timed used limit waited) (ticks (fields cause clear lever)) =
+      cond (flag || cause) (toy fault (has tripKeepsArmed && (armed || isDown lever)) true timed used limit 0)
+      (inStop armed timed lever used limit)
+  next (toy run armed flag timed used limit waited) (ticks (fields cause clear lever)) =
+      cond (flag && not (has forgetsFault) || cause && not (has ignoresCause))
+      (toy fault false (not (has tripsInSilence)) timed used limit 0)
+      (inRun armed timed lever used limit)
+  next (toy fault armed flag timed used limit waited) (ticks (fields cause clear lever)) =
+      cond (has tripsInSilence) (toy run false false timed used limit 0)
+      (cond (cause && not (has leavesWithCause)) (toy fault armed true timed used limit (suc waited))
+      (inFault (armed || has armsInFault && isDown lever) timed clear used limit (suc waited)))
+  next (toy idle armed flag timed used limit waited) glitch = toy idle armed flag timed used limit waited
+  next (toy stop armed flag timed used limit waited) glitch = toy stop armed true timed used limit waited
+  next (toy run armed flag timed used limit waited) glitch = toy run armed (flag || not (has ignoresSamples)) timed used limit waited
+  next (toy fault armed flag timed used limit waited) glitch =
+      cond (has leavesInASample) (toy stop true false timed used limit 0) (toy fault armed true timed used limit waited)
+  next (toy idle armed flag timed used limit waited) halt = cond (has nods) (toy run armed flag timed used limit 0) (toy idle armed flag timed used limit waited)
+  next (toy stop armed flag timed used limit waited) halt = toy stop armed flag timed used limit waited
+  next (toy run armed flag timed used limit waited) halt =
+      cond (has saysStop) (toy run true flag timed used limit waited)
+      (cond (has nods) (toy idle armed flag timed used limit waited) (toy stop armed flag timed used limit waited))
+  next (toy fault armed flag timed used limit waited) halt = toy fault armed flag timed used limit waited
 
-  abbrev pub place : Toy → Place
-  place (toy idle armed flag used limit) = elsewhere
-  place (toy stop armed flag used limit) = atStop
-  place (toy run armed flag used limit) = cond (has saysStop && armed) atStop atStart
-  place (toy fault armed flag used limit) = atFault
+  abbrev pub placeOf : Toy → Place
+  placeOf (toy idle armed flag timed used limit waited) = elsewhere
+  placeOf (toy stop armed flag timed used limit waited) = atStop
+  placeOf (toy run armed flag timed used limit waited) = cond (has saysStop && armed) atStop atStart
+  placeOf (toy fault armed flag timed used limit waited) = atFault
 
-  abbrev faultStands : Toy → Bool
-  faultStands (toy spot armed flag used limit) = flag
+  abbrev flagOf : Toy → Bool
+  flagOf (toy spot armed flag timed used limit waited) = flag
 
   abbrev pub turns : Toy → Bool
-  turns (toy idle armed flag used limit) = false
-  turns (toy stop armed flag used limit) = has drivesInStop && not flag
-  turns (toy run armed flag used limit) = not flag || has drivesWithFault
-  turns (toy fault armed flag used limit) = false
+  turns (toy idle armed flag timed used limit waited) = false
+  turns (toy stop armed flag timed used limit waited) = has drivesInStop && not flag
+  turns (toy run armed flag timed used limit waited) = not flag || has drivesWithFault
+  turns (toy fault armed flag timed used limit waited) = false
 
-  abbrev limitOf : Toy → ℕ
-  limitOf (toy spot armed flag used limit) = limit
+  -- a load is accepted in IDLE and STOP, any other call outside IDLE
+  abbrev pub accepts : Toy → Press → Bool
+  accepts (toy idle armed flag timed used limit waited) (loads retry most) = true
+  accepts (toy stop armed flag timed used limit waited) (loads retry most) = true
+  accepts (toy run armed flag timed used limit waited) (loads retry most) = has loadsInRun
+  accepts (toy fault armed flag timed used limit waited) (loads retry most) = has leavesByALoad
+  accepts (toy idle armed flag timed used limit waited) (ticks f) = false
+  accepts (toy idle armed flag timed used limit waited) glitch = false
+  accepts (toy idle armed flag timed used limit waited) halt = has nods
+  accepts (toy stop armed flag timed used limit waited) (ticks f) = true
+  accepts (toy stop armed flag timed used limit waited) glitch = true
+  accepts (toy stop armed flag timed used limit waited) halt = true
+  accepts (toy run armed flag timed used limit waited) (ticks f) = true
+  accepts (toy run armed flag timed used limit waited) glitch = true
+  accepts (toy run armed flag timed used limit waited) halt = true
+  accepts (toy fault armed flag timed used limit waited) (ticks f) = true
+  accepts (toy fault armed flag timed used limit waited) glitch = true
+  accepts (toy fault armed flag timed used limit waited) halt = true
 
-  abbrev kind : Toy → Press → Kind
-  kind (toy idle armed flag used limit) (loads most) = load
-  kind (toy stop armed flag used limit) (loads most) = load
-  kind (toy run armed flag used limit) (loads most) = cond (has loadsInRun) load other
-  kind (toy fault armed flag used limit) (loads most) = other
-  kind (toy idle armed flag used limit) (ticks cause clear low) = other
-  kind (toy stop armed flag used limit) (ticks cause clear low) = tick low clear
-  kind (toy run armed flag used limit) (ticks cause clear low) = tick low clear
-  kind (toy fault armed flag used limit) (ticks cause clear low) = tick low clear
-  kind (toy spot armed flag used limit) glitch = other
-  kind (toy spot armed flag used limit) halt = other
+  abbrev pub shows : Bool → Toy → Shown
+  shows accepted state = record { accepted = accepted; place = placeOf state; flag = flagOf state; gates = turns state }
 
-  abbrev causeStood : Toy → Press → Bool
-  causeStood (toy spot armed flag used limit) (loads most) = false
-  causeStood (toy spot armed flag used limit) (ticks cause clear low) = cause
-  causeStood (toy spot armed flag used limit) glitch = false
-  causeStood (toy spot armed flag used limit) halt = false
-
-  abbrev pub supervisor : Supervisor
-  supervisor =
+  abbrev pub machine : Machine
+  machine =
       record {
         State = Toy;
         Call = Press;
-        powerUp = toy (cond (has wakesInStop) stop idle) false false 0 0;
+        Answer = Shown;
+        powerUp = toy (cond (has wakesInStop) stop idle) false false false 0 0 0;
         step = next;
-        place = place;
-        faultStands = faultStands;
-        turns = turns;
-        limit = limitOf;
-        kind = kind;
-        causeStood = causeStood;
+        answer = λ state call. shows (accepts state call) (next state call);
       }

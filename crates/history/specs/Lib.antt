@@ -1,4 +1,5 @@
-pub mod History
+pub mod Log
 pub mod Onlooker
-pub mod Supervisor
+pub mod History
+pub mod Page
 pub mod Laws

@@ -3,3 +3,6 @@ pub mod Table
 pub mod Sums
 pub mod Order
 pub mod Choices
+pub mod Reply
+-- Of the promises themselves.
+pub mod OneReply

@@ -2,13 +2,14 @@
 use mathlib.Core.Bool.{Bool, true, false, _&&_, _||_, not}
 use Prim.Native.Nat.{ℕ}
 use lib.Dec.{T}
+use Rattle.history.proofs.Bools.{or-left, or-right}
 use Rattle.drive.specs.Flags.{bit, either, live, withHall, any}
 use Rattle.drive.specs.declared.flags.Flags.{Flags}
 use Rattle.reached.specs.Reached.{butHall}
 
 infixl 30 _or_
 -- `any` asks for flag 15 last
-abbrev first-eight : Flags → Bool
+abbrev pub first-eight : Flags → Bool
 first-eight f = f .kill || f .critical || f .over || f .under || f .flux || f .heat || f .lock || f .timeout
 
 without-last : (a b : Bool) → T (not (a || b)) → T (not (a || false))
@@ -24,14 +25,6 @@ calm-but-hall mask f calm = without-last (first-eight (live mask f)) (live mask 
 -- the second test passes where the first does; a record, so that the tests are found
 record Rise (a b : Bool) : Type 0 where
   rise : T a → T b
-
-or-left : (a b : Bool) → T a → T (a || b)
-or-left true b t = tt
-or-left false b t = absurd t
-
-or-right : (a b : Bool) → T b → T (a || b)
-or-right true b t = tt
-or-right false b t = t
 
 or-rise : (a b c d : Bool) → (T a → T b) → (T c → T d) → T (a || c) → T (b || d)
 or-rise true b c d ab cd t = or-left b d (ab tt)
@@ -66,6 +59,30 @@ stays-with-causes mask f g =
     or masked (f .lock) (g .lock) (bit 7 mask)
     or masked (f .timeout) (g .timeout) (bit 14 mask)
     or masked (f .hall) (g .hall) (bit 15 mask)) .rise
+
+-- and what it adds shows
+plain-too : (a b : Bool) → Rise b (a || b)
+plain-too a b = record { rise = or-right a b }
+
+and-right : (a b bit : Bool) → T (b && bit) → T ((a || b) && bit)
+and-right true true bit t = t
+and-right false true bit t = t
+and-right a false bit t = absurd t
+
+masked-too : (a b bit : Bool) → Rise (b && bit) ((a || b) && bit)
+masked-too a b bit = record { rise = and-right a b bit }
+
+pub shows-causes : (mask : ℕ) (f g : Flags) → T (any (live mask g)) → T (any (live mask (either f g)))
+shows-causes mask f g =
+    (plain-too (f .kill) (g .kill)
+    or plain-too (f .critical) (g .critical)
+    or masked-too (f .over) (g .over) (bit 2 mask)
+    or masked-too (f .under) (g .under) (bit 3 mask)
+    or masked-too (f .flux) (g .flux) (bit 4 mask)
+    or masked-too (f .heat) (g .heat) (bit 6 mask)
+    or masked-too (f .lock) (g .lock) (bit 7 mask)
+    or masked-too (f .timeout) (g .timeout) (bit 14 mask)
+    or masked-too (f .hall) (g .hall) (bit 15 mask)) .rise
 
 -- the flag that a cycle adds
 pub stays-with-hall : (mask : ℕ) (set : Bool) (f : Flags) → T (any (live mask f)) → T (any (live mask (withHall set f)))

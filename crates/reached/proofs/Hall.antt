@@ -1,14 +1,16 @@
 -- The Hall part stays within its bounds: each count is capped where it grows, and only a pattern of the clockwise order is kept.
 use mathlib.Core.Path.{_≡_, refl}
-use mathlib.Core.Bool.{Bool, false}
+use mathlib.Core.Bool.{Bool, true, false, not, _||_}
 use Prim.Native.Nat.{ℕ, _^_, _≤_, _<_}
 use native.Mathlib.Omega.{arith}
 use lib.Dec.{T, eqb}
 use lib.IntN.{ℤ, pos, negsuc, _+ℤ_}
+use lib.ListN.{replicate}
 use mir.Syntax.{w16}
 use mir.Val.{SFits}
 use mir.Facts.{sfits-toZ, eqb-no}
 use borrow.Author.Tests.{eq-eqb}
+use Rattle.numbers.specs.Choose.{pick}
 use Rattle.numbers.specs.Count.{up}
 use Rattle.hall.specs.Fate.{clockwise, among, fate, beside, previous, next}
 use Rattle.hall.specs.Angle.{withOffset, modulo}
@@ -17,9 +19,10 @@ use Rattle.hall.specs.declared.Hall.{Hall}
 use Rattle.hall.specs.declared.fate.Fate.{Fate}
 use Rattle.hall.specs.declared.fate.Fate.the-variants.{Dead, First, Same, Forward, Back, Stray}
 use Rattle.hall.specs.declared.fate.Kept.{Kept}
-use Rattle.hall.specs.declared.fate.Kept.the-variants.{Nothing}
+use Rattle.hall.specs.declared.fate.Kept.the-variants.{Nothing, Pattern}
 use Rattle.reached.specs.Reached.{Known, HallWithin}
 use Rattle.numbers.proofs.Choices.{by-test}
+use Rattle.numbers.proofs.Table.{at}
 
 pub hall-power-up : HallWithin poweredUp
 hall-power-up =
@@ -123,3 +126,54 @@ module _ (hall : Hall) (within : HallWithin hall) where
       by-test (λ (f : Fate). HallWithin (after hall pattern offset f .hall)) (among clockwise pattern)
       (λ stands. good-within pattern offset stands (beside (previous pattern) pattern (next pattern) (hall .kept)))
       (λ t. dead-within)
+
+-- a sample that leaves the dead streak at 2 sets flag 15
+pub dead-flagged :
+    (hall : Hall) (pattern : ℕ) (offset : ℤ)
+    → sampled hall pattern offset .hall .dead ≡ 2
+    → T (sampled hall pattern offset .flagged)
+unfolding sampled deadSample straySample
+dead-flagged hall pattern offset = by-fate (fate pattern (hall .kept))
+  where
+    by-fate : (f : Fate) → after hall pattern offset f .hall .dead ≡ 2 → T (after hall pattern offset f .flagged)
+    by-fate Dead two = rw (eq-eqb (up 2 (hall .dead)) 2 two) tt
+    by-fate First two = absurd (omega arith)
+    by-fate Same two = absurd (omega arith)
+    by-fate Forward two = absurd (omega arith)
+    by-fate Back two = absurd (omega arith)
+    by-fate Stray two = absurd (omega arith)
+
+-- of the patterns 0 to 7, those outside the clockwise order are 0 and 7: tested at all eight
+abbrev agree : Bool → Bool → Bool
+agree true b = b
+agree false b = not b
+
+agreed : (a b : Bool) → T (agree a b) → a ≡ b
+agreed true true t = refl
+agreed true false t = absurd t
+agreed false true t = absurd t
+agreed false false t = refl
+
+outside-the-order : (p : ℕ) → p ≤ 7 → not (eqb p 0 || eqb p 7) ≡ among clockwise p
+outside-the-order p small =
+    agreed (not (eqb p 0 || eqb p 7)) (among clockwise p)
+    (at (λ p (any : Bool). agree (not (eqb p 0 || eqb p 7)) (among clockwise p)) (replicate 8 true) true tt p (omega arith))
+
+-- "0 or 7: dead streak up by one, at most 2"; any other leaves it at zero
+module _ (hall : Hall) (p : ℕ) (offset : ℤ) where
+  abbrev dead-with : Fate → ℕ
+  dead-with f = after hall p offset f .hall .dead
+
+  pub dead-by-pattern : p ≤ 7 → sampled hall p offset .hall .dead ≡ pick (eqb p 0 || eqb p 7) (up 2 (hall .dead)) 0
+  unfolding sampled fate beside deadSample straySample
+  dead-by-pattern small = go (eqb p 0 || eqb p 7) (outside-the-order p small) (hall .kept)
+    where
+      go : (test : Bool) → not test ≡ among clockwise p → (kept : Kept)
+          → dead-with (pick (among clockwise p) (beside (previous p) p (next p) kept) Dead) ≡ pick test (up 2 (hall .dead)) 0
+      go true e kept = rw (← e)
+      go false e Nothing = rw (← e)
+      go false e (Pattern k) =
+          rw (← e)
+          (by-test (λ (f : Fate). dead-with f ≡ 0) (eqb k p) (λ t. refl)
+          (λ t. by-test (λ (f : Fate). dead-with f ≡ 0) (eqb k (previous p)) (λ t. refl)
+          (λ t. by-test (λ (f : Fate). dead-with f ≡ 0) (eqb k (next p)) {a = Back} {b = Stray} (λ t. refl) (λ t. refl))))

@@ -20,11 +20,13 @@ use Rattle.fields.specs.declared.Tick.{Tick}
 use Rattle.states.specs.declared.State.the-variants.{Stop}
 use Rattle.reached.specs.Reached.{Loaded, Reached}
 use Rattle.drive.specs.AnyCall.{Call, loads, cycles, ticks, reply}
-use Rattle.reached.specs.Calls.{reaches}
+use Rattle.history.specs.Log.{stateAfter}
+use Rattle.reached.specs.Calls.{machine}
 use Rattle.reached.proofs.Verdicts.{settled, passed, accepted-settings}
-use Rattle.reached.proofs.Hall.{hall-power-up, sampled-within}
+use Rattle.reached.proofs.Hall.{hall-power-up, sampled-within, dead-flagged}
 use Rattle.reached.proofs.Offsets.{unmeasured-within, summed-within, summed-cycles, summed-measured}
 use Rattle.reached.proofs.Flags.{stays-with-hall}
+use Rattle.history.proofs.Bools.{or-right}
 use Rattle.reached.proofs.Ticks.{ticked-reached}
 
 pub reached-power-up : Reached powerUp
@@ -45,6 +47,7 @@ reached-power-up =
       armed = λ t. absurd t;
       quiet = λ t. tt;
       tripped = λ t. absurd t;
+      dead = λ live two. absurd (omega arith);
     }
 
 -- "An accepted load gives STOP and clears everything else to power-up values"
@@ -66,6 +69,7 @@ loaded-reached numbers loaded =
       armed = λ t. absurd t;
       quiet = λ t. tt;
       tripped = λ t. absurd t;
+      dead = λ live two. absurd (omega arith);
     }
 
 -- Each of the three calls keeps it, accepted or refused, whatever numbers it is told.
@@ -77,7 +81,7 @@ load-keeps d numbers r =
     r
 
 -- an accepted cycle: outside IDLE, with samples of at most 4095
-cycled-reached :
+pub cycled-reached :
     (d : Drive) (c : Cycle)
     → Reached d
     → T (not (is 0 (d .state)))
@@ -102,6 +106,7 @@ cycled-reached d c r outside first second =
       armed = r .armed;
       quiet = r .quiet;
       tripped = λ t. stays-with-hall (FaultEnable (d .settings)) (sample d c .flagged) (d .flags) (r .tripped t);
+      dead = λ live two. or-right (d .flags .hall) (sample d c .flagged) (dead-flagged (d .hall) (c .pattern) _ two);
     }
 
 pub cycle-keeps : (d : Drive) (c : Cycle) → Reached d → Reached (Drives.cycle d c .drive)
@@ -128,6 +133,7 @@ call-keeps d (cycles c) r = cycle-keeps d c r
 call-keeps d (ticks t) r = tick-keeps d t r
 
 -- Every state that a sequence of calls reaches from power-up.
-pub every-reached : (calls : List Call) → Reached (reaches calls)
+pub every-reached : (calls : List Call) → Reached (stateAfter machine calls)
+unfolding stateAfter
 every-reached [] = reached-power-up
-every-reached (call ∷ earlier) = call-keeps (reaches earlier) call (every-reached earlier)
+every-reached (call ∷ earlier) = call-keeps (stateAfter machine earlier) call (every-reached earlier)

@@ -4,13 +4,15 @@ use mathlib.Core.Bool.{Bool, true, false, _&&_, _||_, not}
 use mathlib.Core.Logic.{_⊎_, inl, inr}
 use Prim.Native.Nat.{ℕ, _≤_}
 use native.Mathlib.Omega.{arith}
-use lib.Dec.{T}
+use lib.Dec.{T, eqb}
 use lib.IntN.{natAbs}
-use mir.Facts.{T-not, not-T, and-yes, or-yes}
+use mir.Facts.{T-not, not-T, and-yes, or-yes, or-no}
+use borrow.Author.Tests.{eq-eqb}
 use Rattle.numbers.specs.Count.{up}
 use Rattle.states.specs.States.{is, turning}
 use Rattle.settings.specs.Settings.{FaultEnable, OffsetPsc, RetryLimit, samples}
-use Rattle.drive.specs.Flags.{none}
+use Rattle.drive.specs.Flags.{bit, none, live as lit}
+use Rattle.drive.specs.Causes.{causes}
 use Rattle.drive.specs.Command.{low}
 use Rattle.drive.specs.Offsets.{measuredBy}
 use Rattle.motor.specs.Counts.{still}
@@ -24,22 +26,37 @@ use Rattle.drive.specs.declared.offsets.Offsets.{Offsets}
 use Rattle.motor.specs.declared.Run.{Run}
 use Rattle.moves.specs.declared.Move.{Move}
 use Rattle.reached.specs.Reached.{RunWithin, OffsetsWithin, butHall, Reached}
+use Rattle.history.proofs.Bools.{or-right}
 use Rattle.numbers.proofs.Choices.{by-test}
 use Rattle.reached.proofs.Run.{starting-within, ran-within}
 use Rattle.reached.proofs.Offsets.{cleared-within, measured-within}
-use Rattle.reached.proofs.Flags.{calm-but-hall, stays-with-causes}
+use Rattle.reached.proofs.Flags.{first-eight, calm-but-hall, stays-with-causes}
 use Rattle.reached.proofs.States.{turns, waiting}
 use Rattle.moves.proofs.Ways.{Way, trips, stops, stays, goes-on, calibrates, starts, measures, clears, tries-again, way-of}
 
 module _ (d : Drive) (r : Reached d) (t : Tick) (outside : T (not (is 0 (d .state)))) where
+  -- a tick that finds the dead streak at 2 raises flag 15
+  flagged : d .hall .dead ≡ 2 → T (raised d t .hall)
+  unfolding causes
+  flagged two = or-right (d .flags .hall) (eqb (d .hall .dead) 2) (rw (eq-eqb (d .hall .dead) 2 two) tt)
+
+  -- where no live cause stands, it does not find it so, unless it is masked
+  free-of-dead : T (not (alight d (standing d t))) → T (bit 15 (FaultEnable (d .settings))) → d .hall .dead ≡ 2 → ⊥
+  unfolding causes
+  free-of-dead free live two =
+      let stands : Bool = eqb (d .hall .dead) 2 && bit 15 (FaultEnable (d .settings)) in
+      T-not stands (rw (eq-eqb (d .hall .dead) 2 two) live)
+      (or-no (first-eight (lit (FaultEnable (d .settings)) (standing d t))) stands free .1)
+
   -- a tick that goes to STOP
   stopped :
       (flags : Flags) (offsets : Offsets) (armed : Bool) (retries : ℕ)
       → T (not (alight d (butHall flags)))
       → OffsetsWithin (samples (OffsetPsc (d .settings))) offsets
       → retries ≤ RetryLimit (d .settings)
+      → (T (bit 15 (FaultEnable (d .settings))) → d .hall .dead ≡ 2 → T (flags .hall))
       → Reached (arrive d Stop flags offsets still armed retries)
-  stopped flags offsets armed retries calm within few =
+  stopped flags offsets armed retries calm within few dead =
       record {
         idle = λ u. absurd u;
         settings = λ u. r .settings outside;
@@ -56,6 +73,7 @@ module _ (d : Drive) (r : Reached d) (t : Tick) (outside : T (not (is 0 (d .stat
         armed = λ u. tt;
         quiet = λ u. calm;
         tripped = λ u. absurd u;
+        dead = dead;
       }
 
   -- a tick that enters FAULT
@@ -77,6 +95,7 @@ module _ (d : Drive) (r : Reached d) (t : Tick) (outside : T (not (is 0 (d .stat
         armed = λ u. absurd (and-yes (arms d t) false u .1);
         quiet = λ u. absurd u;
         tripped = λ u. alive;
+        dead = λ live. flagged;
       }
 
   -- a tick that enters OFFSETCAL
@@ -101,6 +120,7 @@ module _ (d : Drive) (r : Reached d) (t : Tick) (outside : T (not (is 0 (d .stat
         armed = λ u. tt;
         quiet = λ u. calm-but-hall (FaultEnable (d .settings)) (raised d t) calm;
         tripped = λ u. absurd u;
+        dead = λ live. flagged;
       }
 
   -- a tick that enters one of the six states
@@ -135,6 +155,7 @@ module _ (d : Drive) (r : Reached d) (t : Tick) (outside : T (not (is 0 (d .stat
         armed = λ u. absurd (disarmed u);
         quiet = λ u. calm-but-hall (FaultEnable (d .settings)) (raised d t) calm;
         tripped = λ u. absurd (T-not (is 5 s) u (apart .not-fault));
+        dead = λ live. flagged;
       }
 
   -- where a low moves elsewhere, a tick that arms stays in STOP or OFFSETCAL
@@ -183,6 +204,7 @@ module _ (d : Drive) (r : Reached d) (t : Tick) (outside : T (not (is 0 (d .stat
         armed = still-waiting quiet;
         quiet = λ u. calm-but-hall (FaultEnable (d .settings)) (raised d t) (calm u);
         tripped = λ u. stays-with-causes (FaultEnable (d .settings)) (d .flags) (standing d t) (r .tripped u);
+        dead = λ live. flagged;
       }
 
   moved-reached :
@@ -198,6 +220,7 @@ module _ (d : Drive) (r : Reached d) (t : Tick) (outside : T (not (is 0 (d .stat
       (calm-but-hall (FaultEnable (d .settings)) (raised d t) calm)
       (r .offsets)
       (r .retries)
+      (λ live. flagged)
   moved-reached at speed target (goes-on {next = next} u onward quiet calm) =
       let runs = subst (λ (s : State). T (turning s)) at u in
       turned next (and-yes (turning next) (not (is 3 next)) onward .0) speed (r .measured runs)
@@ -211,9 +234,10 @@ module _ (d : Drive) (r : Reached d) (t : Tick) (outside : T (not (is 0 (d .stat
       (calm-but-hall (FaultEnable (d .settings)) (raised d t) calm)
       (measured-within (samples (OffsetPsc (d .settings))) (d .offsets) (r .offsets))
       (r .retries)
-  moved-reached at speed target (clears free clear) = stopped none (d .offsets) (arms d t) 0 tt (r .offsets) (omega arith)
+      (λ live. flagged)
+  moved-reached at speed target (clears free clear) = stopped none (d .offsets) (arms d t) 0 tt (r .offsets) (omega arith) (free-of-dead free)
   moved-reached at speed target (tries-again free held mode late few) =
-      stopped none (d .offsets) true (up (RetryLimit (d .settings)) (d .retries)) tt (r .offsets) (omega arith)
+      stopped none (d .offsets) true (up (RetryLimit (d .settings)) (d .retries)) tt (r .offsets) (omega arith) (free-of-dead free)
   moved-reached at speed target (stays quiet calm) =
       stayed-reached target
       (λ u. quiet (subst (λ (s : State). T (turning s)) (sym at) u))

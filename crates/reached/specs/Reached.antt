@@ -13,7 +13,8 @@ use Rattle.hall.specs.declared.Hall.{Hall}
 use Rattle.hall.specs.declared.fate.Kept.{Kept}
 use Rattle.hall.specs.declared.fate.Kept.the-variants.{Nothing, Pattern}
 use Rattle.states.specs.States.{is, turning}
-use Rattle.settings.specs.Settings.{FluxFaultTime, RotorLockTime, HallTimeoutPeriod, OffsetPsc, RetryLimit, samples}
+use Rattle.settings.specs.Settings.{FaultEnable, FluxFaultTime, RotorLockTime, HallTimeoutPeriod, OffsetPsc, RetryLimit, samples}
+use Rattle.drive.specs.Flags.{bit}
 use Rattle.drive.specs.Offsets.{zero}
 use Rattle.motor.specs.Counts as Runs
 use Rattle.settings.specs.Rules.{rule}
@@ -117,3 +118,5 @@ pub record Reached (d : Drive) : Type 0 where
   pub quiet : T (not (is 5 (d .state))) → T (not (alight d (butHall (d .flags))))
   -- FAULT is entered with a live flag, and the flags "stay until cleared"
   pub tripped : T (is 5 (d .state)) → T (alight d (d .flags))
+  -- "At 2, flag 15 is set", and while the streak stands no exit from FAULT clears the flag, unless it is masked
+  pub dead : T (bit 15 (FaultEnable (d .settings))) → d .hall .dead ≡ 2 → T (d .flags .hall)

@@ -5,3 +5,5 @@ pub mod One
 pub mod Turn
 pub mod Going
 pub mod Fuel
+-- Of the promises themselves.
+pub mod OneReply

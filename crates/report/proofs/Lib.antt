@@ -2,3 +2,5 @@ pub mod Runs
 pub mod Digits
 pub mod Fields
 pub mod Accepted
+-- Of the promises themselves.
+pub mod OneReply

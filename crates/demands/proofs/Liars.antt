@@ -1,0 +1,243 @@
+-- Wrong drives: each is this drive but for one lie or one blind spot, in its replies, its state and its account of itself alike. Demand 3
+-- catches each at the last call of a run that is written out, and lets this drive pass at the same run. antt computes each verdict.
+use mathlib.Core.Path.{_≡_, refl}
+use mathlib.Core.Bool.{Bool, true, false, not, _&&_}
+use mathlib.Core.List.{List, [], _∷_, _++_, reverse}
+use Prim.Native.Nat.{ℕ}
+use lib.IntN.{pos}
+use Rattle.numbers.specs.Choose.{pick}
+use Rattle.history.specs.Log.{Machine, stateAfter, log}
+use Rattle.history.specs.Onlooker.{memoryOf, notes}
+use Rattle.history.specs.History.{Seen, lowSince, retrySince, everLoaded, permitted, startTaken, beforeStart, gatesRule, retries, retryRule, holds}
+use Rattle.states.specs.States.{is}
+use Rattle.states.specs.declared.State.{State}
+use Rattle.states.specs.declared.State.the-variants.{Idle, Stop, MotorRun}
+use Rattle.fields.specs.declared.Tick.{Tick}
+use Rattle.drive.specs.Flags.{none}
+use Rattle.drive.specs.Answer.{gateOf, reply as replied}
+use Rattle.drive.specs.Calls.{powerUp, fresh, arrive, retried}
+use Rattle.drive.specs.AnyCall.{Call, loads, cycles, ticks, reply}
+use Rattle.drive.specs.declared.Drive.{Drive}
+use Rattle.drive.specs.declared.answer.Answer.{Answer}
+use Rattle.drive.specs.declared.answer.Reply.{Reply}
+use Rattle.demands.proofs.Computes.{computes}
+use Rattle.demands.specs.Calls.{loaded, loadedInMode1, shows, tickWith, low, high, over, clear, ready, started}
+use Rattle.demands.specs.Supervised.{words}
+
+-- a drive is what it replies in each state
+abbrev Replies : Type 0
+Replies = Drive → Call → Reply
+
+abbrev machineOf : Replies → Machine
+machineOf replies =
+    record {
+      State = Drive;
+      Call = Call;
+      Answer = Answer;
+      powerUp = powerUp;
+      step = λ d call. replies d call .drive;
+      answer = λ d call. replies d call .answer;
+    }
+
+-- ---- blind drives: a field of a tick is read as a harmless number, in every state, in MOTORRUN alone, or elsewhere alone
+
+abbrev Hides : Type 0
+Hides = Tick → Tick
+
+abbrev hiding : (kill command raw filtered temperature : ℕ → ℕ) → Hides
+hiding kill command raw filtered temperature t =
+    record {
+      kill = kill (t .kill);
+      clear = t .clear;
+      command = command (t .command);
+      control = t .control;
+      raw = raw (t .raw);
+      filtered = filtered (t .filtered);
+      temperature = temperature (t .temperature);
+      flux = t .flux;
+      torque = t .torque;
+      speed = t .speed;
+      target = t .target;
+    }
+
+abbrev always : ℕ → ℕ → ℕ
+always harmless number = harmless
+
+abbrev seen : ℕ → ℕ
+seen number = number
+
+abbrev hidesKill : Hides
+hidesKill = hiding (always 0) seen seen seen seen
+
+abbrev hidesCommand : Hides
+hidesCommand = hiding seen (always 1) seen seen seen
+
+abbrev hidesRaw : Hides
+hidesRaw = hiding seen seen (always 2623) seen seen
+
+abbrev hidesFiltered : Hides
+hidesFiltered = hiding seen seen seen (always 2623) seen
+
+abbrev hidesTemperature : Hides
+hidesTemperature = hiding seen seen seen seen (always 1000)
+
+abbrev blindWhere : (State → Bool) → Hides → Replies
+blindWhere there hide d (loads numbers) = reply d (loads numbers)
+blindWhere there hide d (cycles fields) = reply d (cycles fields)
+blindWhere there hide d (ticks fields) = reply d (ticks (pick (there (d .state)) (hide fields) fields))
+
+abbrev blindInMotorRun : Hides → Replies
+blindInMotorRun = blindWhere (is 4)
+
+abbrev blindElsewhere : Hides → Replies
+blindElsewhere = blindWhere (λ state. not (is 4 state))
+
+-- a dead sample is read as the pattern 1
+abbrev blindToDeadSamples : Replies
+blindToDeadSamples d (loads numbers) = reply d (loads numbers)
+blindToDeadSamples d (cycles fields) = reply d (cycles (record { pattern = 1; first = fields .first; second = fields .second }))
+blindToDeadSamples d (ticks fields) = reply d (ticks fields)
+
+-- ---- drives that lie
+
+-- the gate ignores every fault, though the state is right
+abbrev gateIgnoresFaults : Replies
+gateIgnoresFaults d call =
+    let r : Reply = reply d call in
+    let a : Answer = r .answer in
+    record {
+      drive = r .drive;
+      answer =
+          record {
+            number = a .number;
+            place = a .place;
+            state = a .state;
+            gate = gateOf (r .drive .state);
+            live = a .live;
+            reference = a .reference;
+            position = a .position;
+            angle = a .angle;
+            offsets = a .offsets;
+            retries = a .retries;
+          };
+    }
+
+-- moved to a state, with no flag and all else as it was
+abbrev put : State → Drive → Drive
+put state d = arrive d state none (d .offsets) (d .run) (d .armed) (d .retries)
+
+-- FAULT shows no flag, and a tick in it runs on with no start
+abbrev tripsInSilence : Replies
+tripsInSilence d (loads numbers) = reply d (loads numbers)
+tripsInSilence d (cycles fields) = reply d (cycles fields)
+tripsInSilence d (ticks fields) =
+    let next : Drive = reply d (ticks fields) .drive in
+    pick (is 5 (d .state)) (replied 0 0 (put MotorRun d)) (replied 0 0 (pick (is 5 (next .state)) (put (next .state) next) next))
+
+-- a dead sample sends MOTORRUN to IDLE, and the next sample sends it back
+abbrev nods : Replies
+nods d (loads numbers) = reply d (loads numbers)
+nods d (cycles fields) =
+    pick (is 4 (d .state)) (replied 0 0 (put Idle d)) (pick (is 0 (d .state)) (replied 0 0 (put MotorRun d)) (reply d (cycles fields)))
+nods d (ticks fields) = reply d (ticks fields)
+
+-- FAULT is left in a cycle, or by a load
+abbrev leavesInACycle : Replies
+leavesInACycle d (loads numbers) = reply d (loads numbers)
+leavesInACycle d (cycles fields) = pick (is 5 (d .state)) (replied 0 0 (put Stop d)) (reply d (cycles fields))
+leavesInACycle d (ticks fields) = reply d (ticks fields)
+
+abbrev leavesByALoad : Replies
+leavesByALoad d (loads numbers) = pick (is 5 (d .state)) (replied 0 0 (fresh Stop numbers)) (reply d (loads numbers))
+leavesByALoad d (cycles fields) = reply d (cycles fields)
+leavesByALoad d (ticks fields) = reply d (ticks fields)
+
+-- a retry at FAULT's first tick
+abbrev retriesAtOnce : Replies
+retriesAtOnce d (loads numbers) = reply d (loads numbers)
+retriesAtOnce d (cycles fields) = reply d (cycles fields)
+retriesAtOnce d (ticks fields) = pick (is 5 (d .state)) (replied 0 0 (retried d)) (reply d (ticks fields))
+
+-- ---- the runs
+
+-- the run up to MOTORRUN, in mode 0
+abbrev running : List Call
+running = ready loaded ++ started 5
+
+-- ticks with one thing wrong, the command high: gate kill, VdcRaw, VdcFilt too high, too low; the temperature; a low
+abbrev hot : Call
+hot =
+    ticks
+    (record {
+      kill = 0;
+      clear = 0;
+      command = 1;
+      control = 400;
+      raw = 2623;
+      filtered = 2623;
+      temperature = 3501;
+      flux = 2048;
+      torque = pos 0;
+      speed = pos 0;
+      target = pos 700;
+    })
+
+abbrev kill : ℕ → Call
+kill clear = tickWith 1 clear 1 400 2623 2623 0 700
+
+abbrev brake : Call
+brake = tickWith 0 0 1 400 3501 2623 0 700
+
+abbrev under : Call
+under = tickWith 0 0 1 400 2623 999 0 700
+
+-- a wrong drive, and the calls at whose last it is caught
+abbrev Row : Type 0
+Row = Replies × List Call
+
+abbrev rows : List Row
+rows =
+    -- "the answer's gate ignores every fault, though the state is right"
+    (gateIgnoresFaults, running ++ (shows 0 ∷ shows 0 ∷ [])) ∷
+    -- "gate kill raises no flag in MOTORRUN"; so for the other causes that a tick and the samples tell
+    (blindInMotorRun hidesKill, running ++ (kill 0 ∷ [])) ∷
+    (blindInMotorRun hidesRaw, running ++ (brake ∷ [])) ∷
+    (blindInMotorRun hidesFiltered, running ++ (over ∷ [])) ∷
+    (blindInMotorRun hidesFiltered, running ++ (under ∷ [])) ∷
+    (blindInMotorRun hidesTemperature, running ++ (hot ∷ [])) ∷
+    (blindToDeadSamples, running ++ (shows 0 ∷ shows 7 ∷ [])) ∷
+    -- "gate kill counts as a cause in MOTORRUN only, so FAULT is left .. with gate kill held"
+    (blindElsewhere hidesKill, running ++ (kill 0 ∷ kill 1 ∷ [])) ∷
+    -- "a supervisor that trips without showing a flag, stands in FAULT and runs again with no start"
+    (tripsInSilence, running ++ (over ∷ high ∷ [])) ∷
+    -- "RUN to IDLE and back to RUN without a start"
+    (nods, running ++ (shows 0 ∷ shows 1 ∷ [])) ∷
+    -- "FAULT left in a cycle or a load, the cause still there"
+    (leavesInACycle, running ++ (over ∷ shows 1 ∷ [])) ∷
+    (leavesByALoad, running ++ (over ∷ loaded ∷ [])) ∷
+    -- "a 'retry' at FAULT's first tick, or in mode 0"
+    (retriesAtOnce, ready loadedInMode1 ++ started 5 ++ (over ∷ high ∷ [])) ∷
+    (retriesAtOnce, running ++ (over ∷ high ∷ [])) ∷
+    -- a low that is not heeded
+    (blindInMotorRun hidesCommand, running ++ (low ∷ [])) ∷
+    []
+
+abbrev noted : Replies → List Call → List Seen
+noted replies calls = notes words (log (machineOf replies) (reverse calls))
+
+-- the rule holds up to the newest call, and not with it
+abbrev breaksNow : List Seen → Bool
+breaksNow [] = false
+breaksNow (call ∷ past) = holds past && not (holds (call ∷ past))
+
+abbrev all : (Row → Bool) → List Row → Bool
+all test [] = true
+all test (row ∷ rest) = test row && all test rest
+
+pub each-is-caught : all (λ row. breaksNow (noted (row .0) (row .1))) rows ≡ true
+unfolding log notes stateAfter memoryOf holds gatesRule retryRule retries startTaken beforeStart permitted everLoaded lowSince retrySince computes
+each-is-caught = refl
+
+pub this-drive-passes : all (λ row. holds (noted reply (row .1))) rows ≡ true
+unfolding log notes stateAfter memoryOf holds gatesRule retryRule retries startTaken beforeStart permitted everLoaded lowSince retrySince computes
+this-drive-passes = refl

@@ -1,0 +1,2 @@
+-- Of the promises themselves.
+pub mod OneReply

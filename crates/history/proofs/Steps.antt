@@ -1,0 +1,124 @@
+-- The calls of a supervisor that is built as document 01 says, each kind with the laws that it obeys: a call that is none of the others, a
+-- load, a start, a clear that ends a trip, and a timed retry.
+use mathlib.Core.Path.{_≡_}
+use mathlib.Core.Bool.{not, _&&_, _||_}
+use Prim.Native.Nat.{suc, _≤_}
+use lib.Dec.{T}
+use lib.Ieee.Bits.{is-true, is-false}
+use mir.Facts.{and-yes}
+use Rattle.history.specs.History.{Seen, undisturbed}
+use Rattle.history.specs.Laws.{Inside, Step}
+use Rattle.history.proofs.Bools.{never, joins}
+
+module _
+    (before : Inside) (call : Seen) (after : Inside)
+    (gates : T (call .turns) → T (after .turning))
+    (within : after .used ≤ call .limit)
+  where
+    -- neither load, start nor exit: only a low arms, and what turns has turned before
+    pub passes-by :
+        T (not (call .loaded))
+        → T (not (call .started))
+        → T (not (call .exited))
+        → (T (after .loaded) → T (before .loaded))
+        → (T (after .armed) → T (before .armed || call .low))
+        → (T (after .turning) → T (undisturbed call && before .turning))
+        → after .used ≡ before .used
+        → Step before call after
+    passes-by no-load no-start no-exit loaded armed turning same =
+        record {
+          loaded-by-load = λ now. let was = loaded now in search joins;
+          armed-by-low-or-retry = λ now. let by = armed now in search joins;
+          start-asks = never (call .started) no-start;
+          turning-by-start = λ now. let (calm, was) = and-yes (undisturbed call) (before .turning) (turning now) in search joins;
+          gates-ask = gates;
+          exit-asks = search joins;
+          count-follows = rw (is-false (call .loaded) no-load, is-false (call .exited) no-exit) same;
+          count-within = within;
+        }
+
+    -- an accepted load: nothing is armed, nothing turns, no retry is used
+    pub loads :
+        T (call .loaded)
+        → T (not (call .started))
+        → T (not (call .exited))
+        → T (not (after .armed))
+        → T (not (after .turning))
+        → after .used ≡ 0
+        → Step before call after
+    loads load no-start no-exit disarmed rests none =
+        record {
+          loaded-by-load = λ now. search joins;
+          armed-by-low-or-retry = never (after .armed) disarmed;
+          start-asks = never (call .started) no-start;
+          turning-by-start = never (after .turning) rests;
+          gates-ask = gates;
+          exit-asks = search joins;
+          count-follows = rw (is-true (call .loaded) load) none;
+          count-within = within;
+        }
+
+    -- the start, of what was loaded and armed; it disarms
+    pub starts :
+        T (not (call .loaded))
+        → T (call .started)
+        → T (not (call .exited))
+        → T (before .loaded)
+        → T (before .armed)
+        → T (not (after .armed))
+        → (T (after .turning) → T (undisturbed call))
+        → after .used ≡ before .used
+        → Step before call after
+    starts no-load start no-exit loaded armed disarmed calm same =
+        record {
+          loaded-by-load = λ now. search joins;
+          armed-by-low-or-retry = never (after .armed) disarmed;
+          start-asks = λ now. search joins;
+          turning-by-start = λ now. let quiet = calm now in search joins;
+          gates-ask = gates;
+          exit-asks = search joins;
+          count-follows = rw (is-false (call .loaded) no-load, is-false (call .exited) no-exit) same;
+          count-within = within;
+        }
+
+    -- FAULT is left: no cause stood, and nothing turns
+    module _
+        (no-load : T (not (call .loaded)))
+        (no-start : T (not (call .started)))
+        (exit : T (call .exited))
+        (no-cause : T (not (call .causeStood)))
+        (loaded : T (after .loaded) → T (before .loaded))
+        (rests : T (not (after .turning)))
+      where
+        pub clears : T (call .clear) → T (not (after .armed)) → after .used ≡ 0 → Step before call after
+        clears clear disarmed none =
+            record {
+              loaded-by-load = λ now. let was = loaded now in search joins;
+              armed-by-low-or-retry = never (after .armed) disarmed;
+              start-asks = never (call .started) no-start;
+              turning-by-start = never (after .turning) rests;
+              gates-ask = gates;
+              exit-asks = search joins;
+              count-follows = rw (is-false (call .loaded) no-load, is-true (call .exited) exit, is-true (call .clear) clear) none;
+              count-within = within;
+            }
+
+        pub retries : T (not (call .clear)) → T (call .timed) → after .used ≡ suc (before .used) → Step before call after
+        retries no-clear due one-more =
+            record {
+              loaded-by-load = λ now. let was = loaded now in search joins;
+              armed-by-low-or-retry = λ now. search joins;
+              start-asks = never (call .started) no-start;
+              turning-by-start = never (after .turning) rests;
+              gates-ask = gates;
+              exit-asks = search joins;
+              count-follows =
+                  rw (
+                    is-false (call .loaded) no-load,
+                    is-true (call .exited) exit,
+                    is-false (call .clear) no-clear,
+                    is-true (call .timed) due,
+                  )
+                  one-more;
+              count-within = within;
+            }

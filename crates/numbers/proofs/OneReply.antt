@@ -1,0 +1,16 @@
+-- One reply of each public function of this crate: any two that its own promise permits are equal.
+use mathlib.Core.Path.{refl, _∙⁻¹_}
+use Rattle.numbers.proofs.Reply.{OneReply, same}
+use Rattle.numbers.proofs as promises
+
+pub count-up : OneReply promises.count_up.ended promises.count_up.Reads.Post
+count-up κs given r s p q = same (p ∙⁻¹ q) refl
+
+pub signed : OneReply promises.signed.ended promises.signed.Reads.Post
+signed κs given r s p q = same (p ∙⁻¹ q) refl
+
+pub absolute : OneReply promises.absolute.ended promises.absolute.Reads.Post
+absolute κs given r s p q = same (p ∙⁻¹ q) refl
+
+pub limited : OneReply promises.limited.ended promises.limited.Reads.Post
+limited κs given r s p q = same (p ∙⁻¹ q) refl
