@@ -1,5 +1,6 @@
 #!/usr/bin/env python3
 """Document 01's example for the program: its input, made from the paper's numbers, and its output, typed from the paper.
+Behind it an unknown record, with whole ones after it, and the line that the paper's rule gives for these.
 
 python3 tools/expected/shiftline_example.py crates/shiftline
 
@@ -49,9 +50,16 @@ INPUT = b"".join(
     ]
 )
 
+# "a line with number 6 shows the unchanged state and ends the run": no record is called X, and behind it stand a step, and a tick that
+# would clear the fault. The line is the example's last with number 6, and none follows it.
+UNKNOWN = b"X" + cycle(2, 0, 0) + tick(0, 1, 0, 0, 2623, 2623, 1000, 2048, 0, 0, 0)
+ENDING = """\
+6 FAULT....... 0 0004 +00000 00000001 +00000
+"""
+
 if __name__ == "__main__":
     folder = sys.argv[1]
     with open(folder + "/stdin", "wb") as file:
-        file.write(INPUT)
+        file.write(INPUT + UNKNOWN)
     with open(folder + "/stdout", "w", encoding="ascii") as file:
-        file.write(OUTPUT)
+        file.write(OUTPUT + ENDING)

@@ -39,7 +39,8 @@ load                          # refused with 4
 raw 58 43 01 00
 """
 
-# So many bytes less, and the second run ends in a short load.
+# So many bytes less, and the second run ends between two records, the third in a short load.
+UNKNOWN = 4
 CUT = 20
 
 
@@ -53,4 +54,4 @@ if __name__ == "__main__":
     folder = Path(sys.argv[1])
     made = subprocess.run([ROOT / "tools/records"], input=TEXT.encode(), stdout=subprocess.PIPE, check=True).stdout
     (folder / "stdin").write_bytes(made)
-    (folder / "stdout").write_bytes(told(made) + told(made[:-CUT]))
+    (folder / "stdout").write_bytes(told(made) + told(made[:-UNKNOWN]) + told(made[:-CUT]))

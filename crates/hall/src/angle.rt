@@ -1,9 +1,10 @@
 // The angle handed on.
+use std::num::wrapping_add_u16;
 ghost use mathlib.Core.Path.{_≡_};
 ghost use lib.IntN.{_+ℤ_};
-ghost use mir.Syntax.{w32};
-ghost use mir.Val.{SFits};
-ghost use Rattle.hall.specs.Angle.{twelfth, sectorOf, withOffset, middleWith, boundaryWith};
+ghost use mir.Syntax.{w16};
+ghost use mir.Val.{ofZ};
+ghost use Rattle.hall.specs.Angle.{twelfth, sectorOf, modulo, withOffset, middleWith, boundaryWith};
 
 // k times 30 degrees, for k from 0 to 11, where a full turn is 65536.
 const TWELFTHS: [i16; 12] = [
@@ -44,21 +45,27 @@ fn sector_of(pattern: u8) -> Sector
     }
 }
 
-// The exact sum. A minus sign here is what cost the customer yarn.
-fn plus(a: i32, b: i32) -> i32
-    requires { ⌜ SFits w32 (a +ℤ b) ⌝ }
-    ensures { λ r. ⌜ r ≡ a +ℤ b ⌝ }
+// The 16 bits of a signed number, in two's complement: `number as u16` is defined only where it loses nothing.
+fn bits(number: i16) -> u16
+    ensures { λ r. ⌜ r ≡ ofZ w16 number ⌝ }
 {
-    a + b
+    if number < 0 {
+        return ((number as i32) + 65536) as u16;
+    }
+    number as u16
 }
 
-// The angle turned by the offset, wrapped at 16 bits.
+// Angle and offset together: the sum of their bits, which wraps. A difference in its place is what cost the customer yarn.
+fn turned(angle: i16, offset: i16) -> u16
+    ensures { λ r. ⌜ r ≡ modulo (angle +ℤ offset) ⌝ }
+{
+    wrapping_add_u16(bits(angle), bits(offset))
+}
+
 fn with_offset(angle: i16, offset: i16) -> i16
     ensures { λ r. ⌜ r ≡ withOffset angle offset ⌝ }
 {
-    let turned = plus(angle as i32, offset as i32);
-    let bits = (plus(turned, 65536) as u32) % 65536;
-    numbers::signed(bits as u16)
+    numbers::signed(turned(angle, offset))
 }
 
 // What a first pattern gives.

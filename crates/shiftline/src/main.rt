@@ -4,19 +4,19 @@ use drive::Drive;
 use libc::STDIN_FILENO;
 use libc::STDOUT_FILENO;
 use records::run;
+ghost use mathlib.Core.Bool.{true};
 ghost use mathlib.Core.Path.{_≡_};
 ghost use mathlib.Core.List.{_++_};
 ghost use Prim.Native.Nat.{_-_, _≤_};
 ghost use lib.ListN.{length, take, drop};
-ghost use Rattle.records.specs.Run.{run};
-ghost use Rattle.shiftline.specs.Rest.{Rest};
+ghost use Rattle.shiftline.specs.Rest.{Rest, Turned};
 
 // What is kept from one read to the next: the drive, how many bytes at the front of the buffer are not answered yet, and whether
 // there is to be a next read.
 struct Kept {
     drive: Drive,
     held: usize,
-    goes_on: bool,
+    going: bool,
 }
 
 // Moves the bytes from `from` to `to` to the front, and tells how many they are.
@@ -38,31 +38,36 @@ fn moved(input: &mut [u8], from: usize, to: usize) -> usize
 fn answer(drive: Drive, input: &mut [u8], filled: usize, closed: bool, output: &mut [u8]) -> Kept
     requires { ⌜ filled ≤ length (now input) ⌝ }
     ensures { λ r. ⌜ r .held ≤ length (now (input .entry)) ⌝ }
-    ensures { λ r. ⌜ Rest (run closed (length (now (output .entry))) (take filled (now (input .entry))) drive) filled (now (input .entry)) (now (input .exit)) (r .drive) (r .held) ⌝ }
+    ensures { λ r. ⌜ Rest closed (length (now (output .entry))) filled (now (input .entry)) (now (input .exit)) drive r ⌝ }
 {
     let ran = run(drive, &input[..filled], closed, output);
     let taken = ran.taken;
     let written = ran.written;
+    let ended = ran.ended;
     let drive = ran.drive;
     let is_written = io::write_all(STDOUT_FILENO, &output[..written]);
     Kept {
         drive,
         held: moved(input, taken, filled),
-        goes_on: is_written & !ran.ended & !closed,
+        going: is_written & !ended & !closed,
     }
 }
 
 // Reads once behind the bytes that are held. A read that fails ends the program; one of no bytes is the end of the input.
-fn turn(drive: Drive, held: usize, input: &mut [u8], output: &mut [u8]) -> Kept
-    requires { ⌜ held ≤ length (now input) ⌝ }
+// It may be called only where there is to be a next read, so no loop around it goes on after a line with number 6.
+fn turn(kept: Kept, input: &mut [u8], output: &mut [u8]) -> Kept
+    requires { ⌜ (kept .going ≡ true) × (kept .held ≤ length (now input)) ⌝ }
     ensures { λ r. ⌜ r .held ≤ length (now (input .entry)) ⌝ }
+    ensures { λ r. ⌜ Turned (length (now (output .entry))) (now (input .entry)) (now (input .exit)) kept r ⌝ }
 {
+    let drive = kept.drive;
+    let held = kept.held;
     let got = libc::read(STDIN_FILENO, &mut input[held..]);
     if got < 0 {
         return Kept {
             drive,
             held,
-            goes_on: false,
+            going: false,
         };
     }
     let count = io::count(got, &input[held..]);
@@ -72,14 +77,13 @@ fn turn(drive: Drive, held: usize, input: &mut [u8], output: &mut [u8]) -> Kept
 // A proved loop has to end, and nothing says that the input does: the turns are counted down from a number that no run uses up.
 fn serve(input: &mut [u8], output: &mut [u8]) {
     let mut turns = u64::MAX;
-    let mut drive = Drive::power_up();
-    let mut held: usize = 0;
-    let mut goes_on = true;
-    while turns > 0 && goes_on {
-        let kept = turn(drive, held, input, output);
-        drive = kept.drive;
-        held = kept.held;
-        goes_on = kept.goes_on;
+    let mut kept = Kept {
+        drive: Drive::power_up(),
+        held: 0,
+        going: true,
+    };
+    while turns > 0 && kept.going {
+        kept = turn(kept, input, output);
         turns -= 1;
     }
 }

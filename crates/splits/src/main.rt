@@ -54,7 +54,10 @@ fn compare(input: &[u8], whole: &mut [u8], parts: &mut [u8]) {
     print_differing(input, &whole[..written], parts);
 }
 
-// How many bytes the second comparison leaves out at the end, so that it ends in a short record.
+// How many bytes the second comparison leaves out at the end, so that it ends between two records, and the third, so that it ends in
+// a short one.
+const UNKNOWN: usize = 4;
+
 const CUT: usize = 20;
 
 // The shortest record has 6 bytes and a line 45, so 7,680 bytes hold the lines of everything that 1,024 bytes can ask for.
@@ -65,6 +68,7 @@ fn main() {
     let count = io::read_full(STDIN_FILENO, &mut input);
     compare(&input[..count], &mut whole, &mut parts);
     if CUT < count {
+        compare(&input[..count - UNKNOWN], &mut whole, &mut parts);
         compare(&input[..count - CUT], &mut whole, &mut parts);
     }
 }

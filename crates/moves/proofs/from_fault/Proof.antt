@@ -4,12 +4,7 @@ use Rattle.moves.proofs.from_fault.Statement.{statement}
 use Rattle.moves.proofs.from_fault.Tie as tie
 
 returns : tie.Need-returns
-returns c =
-    rw (
-      c .pick-move3 .ensures,
-      c .before .pick-move2 .ensures,
-      c .before .before .pick-move .ensures,
-    )
+returns c = rw (← c .before .before .pick-move .ensures, ← c .before .pick-move2 .ensures) (c .pick-move3 .ensures)
 
 pub from-fault-spec : {M : Type 1} → statement M
 from-fault-spec =

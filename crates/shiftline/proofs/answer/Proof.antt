@@ -1,4 +1,6 @@
 -- `answer` keeps what the run left and did not take; a run takes and writes no more than it is lent.
+-- Whether there is to be a next read follows from what the run told of its end.
+use mathlib.Core.Bool.{Bool, _&&_, not}
 use mathlib.Core.Path.{_≡_, ap, sym, _∙_}
 use mathlib.Core.List.{List, _++_}
 use Prim.Native.Nat.{ℕ, _-_, _≤_}
@@ -7,9 +9,7 @@ use lib.ListN.{length, take, drop, length-drop}
 use lib.Seq.{length-take-le, take-at}
 use denote.Ref.{now}
 use borrow.Author.Needs.{needs}
-use Rattle.records.specs.Run.{Outcome, told}
 use Rattle.records.specs.declared.Ran.{Ran}
-use Rattle.shiftline.specs.Rest.{Rest}
 use Rattle.shiftline.proofs.answer.Statement.{statement}
 use Rattle.shiftline.proofs.answer.Tie as tie
 
@@ -18,22 +18,17 @@ slice-aggregate-run c = sym (length-take-le _ _ (c .before .before .before .pre)
 
 slice-aggregate-write-all : tie.Need-slice-aggregate-write-all
 slice-aggregate-write-all c =
-    sym (length-take-le _ _ (omega (arith, c .before .before .before .before .run .ensures .1 .1 .1, c .before .before .before .before .run .kept .1 .1 .1 .0)))
+    let run = c .before .before .before .before .run in
+    sym (length-take-le _ _ (omega (arith, run .ensures .1 .1 .1, run .kept .1 .1 .1 .0)))
 
--- what `moved` leaves is the rest of what the run was lent
-rest : (o : Outcome) (ran : Ran) (filled : ℕ) (before after : List ℕ) (held : ℕ)
-    → ran ≡ told o → ran .taken ≤ filled → filled ≤ length before → held ≡ filled - ran .taken
-    → after ≡ take (filled - ran .taken) (drop (ran .taken) before) ++ drop (filled - ran .taken) before
-    → Rest o filled before after (ran .drive) held
-rest o ran filled before after held said taken within count out =
-    let took : ran .taken ≡ o .taken = ap (λ (r : Ran). r .taken) said in
-    record {
-      left = ap (λ (r : Ran). r .drive) said;
-      count = count ∙ ap (λ (n : ℕ). filled - n) took;
-      bytes = rw (← took, out, count)
-          (take-at (take (filled - ran .taken) (drop (ran .taken) before)) (drop (filled - ran .taken) before) (filled - ran .taken)
-          (length-take-le (filled - ran .taken) (drop (ran .taken) before) (omega (arith, length-drop (ran .taken) before))));
-    }
+-- what `moved` leaves at the front is the rest of what the run was lent
+front : (taken filled : ℕ) (before after : List ℕ) (held : ℕ) → taken ≤ filled → filled ≤ length before → held ≡ filled - taken
+    → after ≡ take (filled - taken) (drop taken before) ++ drop (filled - taken) before
+    → take held after ≡ take held (drop taken before)
+front taken filled before after held took within count out =
+    rw (out, count)
+    (take-at (take (filled - taken) (drop taken before)) (drop (filled - taken) before) (filled - taken)
+    (length-take-le (filled - taken) (drop taken before) (omega (arith, length-drop taken before))))
 
 taken-within : (c : tie.After-run) → c .run .result .taken ≤ c .before .before .before .before .before .args .filled
 taken-within c =
@@ -41,16 +36,29 @@ taken-within c =
     omega (arith, c .run .ensures .1 .1 .0, length-take-le (start .args .filled) (now (start .args .input)) (start .pre))
 
 moved-requires : tie.Need-moved-requires
-moved-requires c κs = (taken-within (c .before .before .before .before .before .before), c .before .before .before .before .before .before .before .before .before .before .before .pre)
+moved-requires c κs =
+    let after-run = c .before .before .before .before .before .before in
+    (taken-within after-run, after-run .before .before .before .before .before .pre)
 
 returns : tie.Need-returns
 returns c =
-    let start = c .before .before .before .before .before .before .before .before .before .before .before .before .before .before .before in
-    let ran = c .before .before .before .before .before .before .before .before .before .before in
-    let moved = c .before .before .before .moved in (
+    let moved = c .before .before .moved in
+    let after-run = c .before .before .before .before .before .before .before .before .before in
+    let ran = after-run .run .result in
+    let start = after-run .before .before .before .before .before in
+    let said = after-run .run .ensures .0 in
+    let took = ap (λ (r : Ran). r .taken) said in
+    let is-written = c .before .before .before .before .write-all .result in (
       search needs,
-      rest _ (ran .run .result) (start .args .filled) (now (start .args .input)) (moved .last .0) (moved .result)
-          (ran .run .ensures .0) (taken-within ran) (start .pre) (moved .ensures .0) (moved .ensures .1),
+      record {
+        left = ap (λ (r : Ran). r .drive) said;
+        count = moved .ensures .0 ∙ ap (λ (n : ℕ). start .args .filled - n) took;
+        bytes = rw (← took)
+            (front (ran .taken) (start .args .filled) (now (start .args .input)) (moved .last .0) (moved .result)
+            (taken-within after-run) (start .pre) (moved .ensures .0) (moved .ensures .1));
+        written = is-written;
+        going = ap (λ (ended : Bool). is-written && not ended && not (start .args .closed)) (ap (λ (r : Ran). r .ended) said);
+      },
     )
 
 pub answer-spec : {M : Type 1} → statement M

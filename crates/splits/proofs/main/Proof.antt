@@ -1,4 +1,4 @@
--- `main` lends the bytes that it has read, and for the second comparison fewer.
+-- `main` lends the bytes that it has read, and for the second and the third comparison fewer.
 use mathlib.Core.Path.{sym}
 use lib.Seq.{length-take-le}
 use borrow.Author.Needs.{needs}
@@ -7,6 +7,9 @@ use Rattle.splits.proofs.main.Tie as tie
 
 slice-aggregate-compare-4 : tie.Need-slice-aggregate-compare-4
 slice-aggregate-compare-4 c = sym (length-take-le _ _ (search needs))
+
+slice-aggregate-compare-7 : tie.Need-slice-aggregate-compare-7
+slice-aggregate-compare-7 c = sym (length-take-le _ _ (search needs))
 
 pub main-spec : {M : Type 1} → statement M
 main-spec =
@@ -22,6 +25,12 @@ main-spec =
     (λ c. search needs)
     (λ c. search needs)
     slice-aggregate-compare-4
+    (λ c. search needs)
+    (λ c. search needs)
+    (λ c κs. search needs)
+    (λ c. search needs)
+    (λ c. search needs)
+    slice-aggregate-compare-7
     (λ c. search needs)
     (λ c. search needs)
     (λ c κs. search needs)
