@@ -28,7 +28,8 @@ module _ (call : Call) (earlier : List Call) where
   rules : T (gatesRule (now ∷ past)) × T (exitRule now) × T (retryRule (now ∷ past))
   unfolding log notes holds
   rules =
-      let (three, before) = and-yes (gatesRule (now ∷ past) && exitRule now && retryRule (now ∷ past)) (holds past) (drive-demand3 (call ∷ earlier)) in
+      let all : Bool = gatesRule (now ∷ past) && exitRule now && retryRule (now ∷ past) in
+      let (three, before) = and-yes all (holds past) (drive-demand3 (call ∷ earlier)) in
       let (two, third) = and-yes (gatesRule (now ∷ past) && exitRule now) (retryRule (now ∷ past)) three in
       let (first, second) = and-yes (gatesRule (now ∷ past)) (exitRule now) two in
       (first, second, third)

@@ -1,5 +1,5 @@
--- "A reverse spin judged by signed speed", an error that a bench has met: a tick answers the same whichever way the shaft turns, but for the
--- speed reference, which takes the measured speed with its sign when MOTORRUN is entered.
+-- "A reverse spin judged by signed speed", an error that a bench has met: a tick answers the same whichever way the shaft turns, but for
+-- the speed reference, which takes the measured speed with its sign when MOTORRUN is entered.
 use mathlib.Core.Path.{_≡_, refl, ap, _∙_}
 use mathlib.Core.Bool.{Bool, true, false, _&&_, not}
 use Prim.Native.Nat.{zero, suc}

@@ -1,4 +1,5 @@
--- What an answer shows: the gates charge or drive where no flag is live and the state is one of the six; the live word is 0 where none is live.
+-- What an answer shows: the gates charge or drive where no flag is live and the state is one of the six; the live word is 0 where none
+-- is live.
 use mathlib.Core.Path.{_≡_, refl}
 use mathlib.Core.Bool.{Bool, true, false, not, _&&_, _||_}
 use Prim.Native.Nat.{ℕ}

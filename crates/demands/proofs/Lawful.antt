@@ -59,7 +59,8 @@ settles : (P : Reply → Type 0) (v : Verdict) (next d : Drive)
     → (v .number ≡ 0 → P (replied 0 0 next))
     → (eqb (v .number) 0 ≡ false → P (replied (v .number) (v .place) d))
     → P (settle v next d)
-settles P v next d accepted refused = by-test P (eqb (v .number) 0) (λ t. accepted (eqb-yes t)) (λ t. refused (is-false (eqb (v .number) 0) t))
+settles P v next d accepted refused =
+    by-test P (eqb (v .number) 0) (λ t. accepted (eqb-yes t)) (λ t. refused (is-false (eqb (v .number) 0) t))
 
 same-memory :
     (m : Memory) {numbers : List ℕ} {shown : ℕ} {dead : ℕ}
@@ -143,7 +144,8 @@ module _ (d : Drive) (r : Reached d) (memory : Memory) (knows : Remembers d memo
         record {
           remembers = now;
           obeys =
-              subst (λ (about : Asked Tick). Step (inside d) (noted words memory about after (answer number at d)) (inside d)) (sym heard-nothing)
+              subst (λ (about : Asked Tick). Step (inside d) (noted words memory about after (answer number at d)) (inside d))
+              (sym heard-nothing)
               (stands (d .hall) (d .flags) (d .cycles) (d .offsets) number at after r (λ t. t) now loaded-nothing);
         }
 
@@ -182,7 +184,9 @@ module _ (d : Drive) (r : Reached d) (memory : Memory) (knows : Remembers d memo
         record {
           remembers = tick-remembers d memory knows t outside;
           obeys =
-              subst (λ (m : Memory). Step (inside d) (note words m (record { call = ticks t; answer = answer 0 0 (ticked d t) })) (inside (ticked d t)))
+              subst
+              (λ (m : Memory).
+              Step (inside d) (note words m (record { call = ticks t; answer = answer 0 0 (ticked d t) })) (inside (ticked d t)))
               recalled
               (Ticks.tick-obeys (d .settings) (d .hall) (d .flags) (d .cycles) (d .ticks) (d .offsets) (d .run) (d .armed) (d .retries) t
               (memory .waited) (r .retries) (d .state)

@@ -1,5 +1,5 @@
--- What the drive holds inside, and what its answers show of it: where the gates charge or drive, it turns; where it turns, the state shown is
--- a starting or running one, the live word is 0, and no pair of dead samples stands.
+-- What the drive holds inside, and what its answers show of it: where the gates charge or drive, it turns; where it turns, the state shown
+-- is a starting or running one, the live word is 0, and no pair of dead samples stands.
 use mathlib.Core.Path.{subst}
 use mathlib.Core.Bool.{not, _&&_}
 use Prim.Native.Nat.{ℕ}

@@ -123,7 +123,9 @@ notes-all : (n : ℕ) → n ≤ 9999 → noted (waited n) ≡ replicate n waitin
 unfolding log notes
 notes-all zero small = refl
 notes-all (suc n) small =
-    both (λ (d : Drive) (m : Memory). note words m (entry machine d high) ∷ noted (waited n)) (waits-all n (omega arith)) (recalls-all n (omega arith))
+    both (λ (d : Drive) (m : Memory). note words m (entry machine d high) ∷ noted (waited n))
+    (waits-all n (omega arith))
+    (recalls-all n (omega arith))
     ∙ ap (λ (call : Seen). call ∷ noted (waited n)) (waits-noted n (omega arith))
     ∙ ap (λ (past : List Seen). waiting ∷ past) (notes-all n (omega arith))
 
@@ -150,7 +152,9 @@ seventy-eight = refl
 -- two highs more
 abbrev two-more : Drive → Memory → List Seen → List Seen
 two-more d m past =
-    note words (remember words m (entry machine d high)) (entry machine (reply d high .drive) high) ∷ note words m (entry machine d high) ∷ past
+    note words (remember words m (entry machine d high)) (entry machine (reply d high .drive) high)
+    ∷ note words m (entry machine d high)
+    ∷ past
 
 ends : (n : ℕ)
     → noted (high ∷ high ∷ waited n)

@@ -1,5 +1,5 @@
--- Document 01, "Bench cases (P: to be proved)": P1 to P10 as one table of tests. Each but P9 is a run of calls from power-up, so every state
--- in it is reached, and is judged by the answers; P9 is the definition of the target in mode 1.
+-- Document 01, "Bench cases (P: to be proved)": P1 to P10 as one table of tests. Each but P9 is a run of calls from power-up, so every
+-- state in it is reached, and is judged by the answers; P9 is the definition of the target in mode 1.
 use Prim.Native.Nat.{ℕ}
 use mathlib.Core.Bool.{Bool, false, _&&_}
 use mathlib.Core.List.{List, [], _∷_, _++_, map}

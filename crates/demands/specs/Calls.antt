@@ -1,5 +1,5 @@
--- Calls by name, for the bench cases and the named runs: the settings and the tick of the paper's example, with what a case changes of them.
--- A run is written in the order in which its calls are made, the first first.
+-- Calls by name, for the bench cases and the named runs: the settings and the tick of the paper's example, with what a case changes of
+-- them. A run is written in the order in which its calls are made, the first first.
 use Prim.Native.Nat.{ℕ, zero, suc}
 use mathlib.Core.List.{List, [], _∷_, _++_, reverse}
 use lib.IntN.{pos}

@@ -1,5 +1,5 @@
--- Demand 3 is no demand to stand still. Three named runs from power-up: one that turns by a raised command, one that trips and turns again by
--- a timed retry, and one in which a command held high after a clear starts nothing. The second is the page to show a foreman.
+-- Demand 3 is no demand to stand still. Three named runs from power-up: one that turns by a raised command, one that trips and turns again
+-- by a timed retry, and one in which a command held high after a clear starts nothing. The second is the page to show a foreman.
 use Prim.Native.Nat.{ℕ}
 use mathlib.Core.List.{List, [], _∷_, _++_, reverse}
 use Rattle.history.specs.Log.{log}

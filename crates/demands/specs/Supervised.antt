@@ -1,6 +1,6 @@
--- This drive as the onlooker of demand 3 knows it: the words of its calls and answers, and the demand of it. The numbers here are those of a
--- load, a sample or a tick, or shown by an answer: nothing is read off the drive's state. Causes 0, 1, 2, 3, 6 and 15 are told by what comes
--- in. Causes 4, 7 and 14, which the drive counts over many ticks in MOTORRUN, only the live word tells: no exit from FAULT needs them.
+-- This drive as the onlooker of demand 3 knows it: the words of its calls and answers, and the demand of it. The numbers here are those of
+-- a load, a sample or a tick, or shown by an answer: nothing is read off the drive's state. Causes 0, 1, 2, 3, 6 and 15 are told by what
+-- comes in. Causes 4, 7 and 14, which the drive counts over many ticks in MOTORRUN, only the live word tells: no exit from FAULT needs them.
 use Prim.Native.Nat.{ℕ}
 use mathlib.Core.Bool.{Bool, not, _&&_, _||_}
 use mathlib.Core.List.{List}

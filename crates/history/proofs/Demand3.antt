@@ -21,7 +21,7 @@ record Borne (inside : Inside) (past : List Seen) : Type 0 where
 
 -- ---- one call
 
-module _ (before : Inside) (call : Seen) (after : Inside) (past : List Seen) (law : Step before call after) (borne : Borne before past) where
+module _ {before : Inside} {call : Seen} {after : Inside} {past : List Seen} (law : Step before call after) (borne : Borne before past) where
   -- only a load loads
   loaded-after : T (after .loaded) → T (everLoaded (call ∷ past))
   unfolding everLoaded
@@ -145,15 +145,15 @@ module _ (supervisor : Machine) (words : Words (supervisor .Call) (supervisor .A
   borne : (calls : List (supervisor .Call)) → Borne (insideAfter calls) (history calls)
   unfolding stateAfter log notes
   borne [] = subst (λ (inside : Inside). Borne inside []) (sym (lawful .asleep-at-power-up)) borne-at-power-up
-  borne (call ∷ earlier) = borne-after _ _ _ _ (law call earlier) (borne earlier)
+  borne (call ∷ earlier) = borne-after (law call earlier) (borne earlier)
 
   -- Demand 3: "Take any sequence of calls from power-up."
   pub demand3 : (calls : List (supervisor .Call)) → Demand3 (history calls)
   unfolding log notes holds
   demand3 [] = tt
   demand3 (call ∷ earlier) =
-      let gates = gates-hold _ _ _ _ (law call earlier) (borne earlier) in
+      let gates = gates-hold (law call earlier) (borne earlier) in
       let exits = law call earlier .exit-asks in
-      let retries = retries-hold _ _ _ _ (law call earlier) (borne earlier) in
+      let retries = retries-hold (law call earlier) (borne earlier) in
       let before = demand3 earlier in
       search joins

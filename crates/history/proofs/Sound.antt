@@ -1,5 +1,5 @@
--- The sound toy obeys the laws, case by case, and so demand 3 holds of it: a second supervisor, with other calls and other words, comes to the
--- same theorem by its own record of laws.
+-- The sound toy obeys the laws, case by case, and so demand 3 holds of it: a second supervisor, with other calls and other words, comes
+-- to the same theorem by its own record of laws.
 use Prim.Native.Nat.{ℕ, suc, _≤_, _<_, zero-le}
 use native.Mathlib.Omega.{arith}
 use mathlib.Core.Path.{_≡_, refl}
@@ -126,15 +126,18 @@ module _ (timed : Bool) (used limit waited : ℕ) (memory : Memory) where
       let later : suc waited ≤ suc (memory .waited) = omega arith in rw (at, known .loaded) (search computed)
   in-fault flag at known late (ticks (fields false true lever)) = rw (at, known .loaded) (search computed)
   in-fault flag at known late (ticks (fields false false lever)) =
-      waits timed flag (leb 2 (suc waited)) (ltb used limit) used limit waited memory lever at (known .loaded) (known .within) (omega arith) refl refl
+      waits timed flag (leb 2 (suc waited)) (ltb used limit) used limit waited memory lever at (known .loaded) (known .within) (omega arith)
+      refl refl
   in-fault flag at known late glitch = rw (at, known .loaded) (search computed)
   in-fault flag at known late halt = let dead = known .dead in rw (at, known .loaded) (search computed)
 
 done : (state : Toy) (memory : Memory) → Good state memory → (call : Press) → Done state memory call
 done (toy idle true flag timed used limit waited) memory good call = absurd (good .1)
 done (toy idle false flag timed used limit waited) memory good call = in-idle timed used limit waited memory flag (good .0) (good .2) call
-done (toy stop armed flag timed used limit waited) memory good call = in-stop timed used limit waited memory armed flag (good .0) (good .1) call
-done (toy run armed flag timed used limit waited) memory good call = in-run timed used limit waited memory armed flag (good .0) (good .1) call
+done (toy stop armed flag timed used limit waited) memory good call =
+    in-stop timed used limit waited memory armed flag (good .0) (good .1) call
+done (toy run armed flag timed used limit waited) memory good call =
+    in-run timed used limit waited memory armed flag (good .0) (good .1) call
 done (toy fault true flag timed used limit waited) memory good call = absurd (good .2)
 done (toy fault false flag timed used limit waited) memory good call =
     in-fault timed used limit waited memory flag (good .0) (good .1) (good .3) call

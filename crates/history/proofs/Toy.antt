@@ -155,7 +155,9 @@ module _ (habit : Habit) where
       cond (has startsInTheMiddle && armed) (toy run false false timed used limit 0)
       (cond (has startsDry && armed) (toy run true false timed used limit 0) (toy stop armed false timed used limit 0))
   inStop armed timed up used limit =
-      cond (armed || has startsUnarmed) (toy run (has startKeepsArmed && armed) false timed used limit 0) (toy stop armed false timed used limit 0)
+      cond (armed || has startsUnarmed)
+      (toy run (has startKeepsArmed && armed) false timed used limit 0)
+      (toy stop armed false timed used limit 0)
 
   -- in RUN, with no live fault: a low stops, and arms
   abbrev inRun : (armed timed : Bool) → Lever → (used limit : ℕ) → Toy
@@ -201,7 +203,8 @@ module _ (habit : Habit) where
   next (toy run armed flag timed used limit waited) glitch = toy run armed (flag || not (has ignoresSamples)) timed used limit waited
   next (toy fault armed flag timed used limit waited) glitch =
       cond (has leavesInASample) (toy stop true false timed used limit 0) (toy fault armed true timed used limit waited)
-  next (toy idle armed flag timed used limit waited) halt = cond (has nods) (toy run armed flag timed used limit 0) (toy idle armed flag timed used limit waited)
+  next (toy idle armed flag timed used limit waited) halt =
+      cond (has nods) (toy run armed flag timed used limit 0) (toy idle armed flag timed used limit waited)
   next (toy stop armed flag timed used limit waited) halt = toy stop armed flag timed used limit waited
   next (toy run armed flag timed used limit waited) halt =
       cond (has saysStop) (toy run true flag timed used limit waited)

@@ -1,6 +1,6 @@
 -- The onlooker: he reads a log, oldest entry first, keeps a memory of his own, and notes of each entry what demand 3 speaks of. He never
--- sees the supervisor's state. Of an answer he trusts the number, the state, the gate and the live word; lows, highs, clears, the time spent
--- in FAULT, and the causes that the fields and the samples tell, he works out himself.
+-- sees the supervisor's state. Of an answer he trusts the number, the state, the gate and the live word; lows, highs, clears, the time
+-- spent in FAULT, and the causes that the fields and the samples tell, he works out himself.
 use Prim.Native.Nat.{ℕ, suc}
 use mathlib.Core.Bool.{Bool, true, false, not, _&&_, _||_, cond}
 use mathlib.Core.List.{List, [], _∷_}
@@ -19,8 +19,8 @@ pub data Asked (Tick : Type 0) : Type 0 where
   -- neither
   neither : Asked Tick
 
--- The words of a supervisor's calls and answers. Where a rule of the paper depends on the settings, they are the numbers of the last accepted
--- load, never those that a state holds.
+-- The words of a supervisor's calls and answers. Where a rule of the paper depends on the settings, they are the numbers of the last
+-- accepted load, never those that a state holds.
 pub record Words (Call Answer : Type 0) : Type 1 where
   pub Tick : Type 0
   -- the call
