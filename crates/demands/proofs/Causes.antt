@@ -17,11 +17,10 @@ use Rattle.demands.specs.Supervised.{causeOf, deadCauseOf}
 
 -- the flags that he knows of, among the nine
 known : (kill critical over under flux heat lock timeout hall : Bool)
-    → T (hall || (kill || critical || over || under || heat))
+    → T (kill || critical || over || under || heat || hall)
     → T (kill || critical || over || under || flux || heat || lock || timeout || hall)
 known kill critical over under flux heat lock timeout hall told =
-    or-cases hall (kill || critical || over || under || heat) told
-    (λ h. search (or-left, or-right) depth 12)
+    or-cases (kill || critical || over || under || heat) hall told
     (λ k. or-cases (kill || critical || over || under) heat k
     (λ l. or-cases (kill || critical || over) under l
     (λ m. or-cases (kill || critical) over m
@@ -29,17 +28,18 @@ known kill critical over under flux heat lock timeout hall told =
     (λ o. search (or-left, or-right) depth 12))
     (λ u. search (or-left, or-right) depth 12))
     (λ h. search (or-left, or-right) depth 12))
+    (λ h. search (or-left, or-right) depth 12)
 
 module _ (d : Drive) (t : Tick) where
   -- what he finds blocks an exit from FAULT ..
-  pub found-blocks : T (deadCauseOf (d .settings) (d .hall .dead) || causeOf (d .settings) t) → T (alight d (standing d t))
+  pub found-blocks : T (causeOf (d .settings) t || deadCauseOf (d .settings) (d .hall .dead)) → T (alight d (standing d t))
   unfolding causes
   found-blocks =
       let f : Flags = live (FaultEnable (d .settings)) (standing d t) in
       known (f .kill) (f .critical) (f .over) (f .under) (f .flux) (f .heat) (f .lock) (f .timeout) (f .hall)
 
   -- .. and trips outside it
-  pub found-trips : T (deadCauseOf (d .settings) (d .hall .dead) || causeOf (d .settings) t) → T (alight d (raised d t))
+  pub found-trips : T (causeOf (d .settings) t || deadCauseOf (d .settings) (d .hall .dead)) → T (alight d (raised d t))
   found-trips found = shows-causes (FaultEnable (d .settings)) (d .flags) (standing d t) (found-blocks found)
 
 -- a dead streak of 2 is flagged as long as it stands

@@ -6,7 +6,7 @@ use lib.Dec.{T, leb→le}
 use mir.Facts.{and-yes}
 use Rattle.history.specs.Log.{stateAfter, entry, log}
 use Rattle.history.specs.Onlooker.{memoryOf, note, notes}
-use Rattle.history.specs.History.{Seen, holds, gatesRule, exitRule, retryRule, startTaken, permitted, beforeStart, lowSince, retrySince, everLoaded, retries, whenever}
+use Rattle.history.specs.History.{Seen, holds, gatesRule, exitRule, retryRule, faultStanding, startTaken, permitted, beforeStart, lowSince, retrySince, everLoaded, retries, whenever}
 use Rattle.drive.specs.AnyCall.{Call}
 use Rattle.reached.specs.Calls.{machine}
 use Rattle.demands.specs.Supervised.{words}
@@ -25,21 +25,21 @@ module _ (call : Call) (earlier : List Call) where
   past = notes words (log machine earlier)
 
   -- the rules after the newest call
-  rules : T (gatesRule (now ∷ past)) × T (exitRule now) × T (retryRule (now ∷ past))
+  rules : T (gatesRule (now ∷ past)) × T (exitRule (now ∷ past)) × T (retryRule (now ∷ past))
   unfolding log notes holds
   rules =
-      let all : Bool = gatesRule (now ∷ past) && exitRule now && retryRule (now ∷ past) in
+      let all : Bool = gatesRule (now ∷ past) && exitRule (now ∷ past) && retryRule (now ∷ past) in
       let (three, before) = and-yes all (holds past) (drive-demand3 (call ∷ earlier)) in
-      let (two, third) = and-yes (gatesRule (now ∷ past) && exitRule now) (retryRule (now ∷ past)) three in
-      let (first, second) = and-yes (gatesRule (now ∷ past)) (exitRule now) two in
+      let (two, third) = and-yes (gatesRule (now ∷ past) && exitRule (now ∷ past)) (retryRule (now ∷ past)) three in
+      let (first, second) = and-yes (gatesRule (now ∷ past)) (exitRule (now ∷ past)) two in
       (first, second, third)
 
   -- "if the gates charge or drive, .."
   module _ (turns : T (now .turns)) where
-    turning : T (not (now .faultStands)) × T (startTaken (now ∷ past)) × T (permitted (beforeStart (now ∷ past)))
+    turning : T (not (faultStanding (now ∷ past))) × T (startTaken (now ∷ past)) × T (permitted (beforeStart (now ∷ past)))
     unfolding gatesRule
     turning =
-        let dark : Bool = not (now .faultStands) in
+        let dark : Bool = not (faultStanding (now ∷ past)) in
         let taken : Bool = startTaken (now ∷ past) in
         let allowed : Bool = permitted (beforeStart (now ∷ past)) in
         let (two, third) = and-yes (dark && taken) allowed (so (now .turns) (dark && taken && allowed) (rules .0) turns) in
@@ -47,7 +47,7 @@ module _ (call : Call) (earlier : List Call) where
         (first, second, third)
 
     -- ".. no live fault stands"
-    pub no-live-fault : T (not (now .faultStands))
+    pub no-live-fault : T (not (faultStanding (now ∷ past)))
     no-live-fault = turning .0
 
     -- "a start was taken since the last accepted load, with no live fault and no stop since it"
@@ -60,17 +60,25 @@ module _ (call : Call) (earlier : List Call) where
     low-or-retry =
         let before = beforeStart (now ∷ past) in and-yes (everLoaded before) (lowSince before || retrySince before) (turning .2) .1
 
-  -- "At every exit from FAULT no live cause stood", and it was a clear or a timed retry
-  exits : T (now .exited) → T (not (now .causeStood)) × T (now .clear || now .due)
-  exits exited =
-      let rule : Bool = not (now .causeStood) && (now .clear || now .due) in
-      and-yes (not (now .causeStood)) (now .clear || now .due) (so (now .exited) rule (rules .1) exited)
+  -- "At every exit from FAULT no live cause stood"; it was a clear or a timed retry, and a live fault stood before it
+  module _ (exited : T (now .exited)) where
+    exits : T (not (now .causeStood)) × T (now .clear || now .due) × T (faultStanding past)
+    unfolding exitRule
+    exits =
+        let free : Bool = not (now .causeStood) in
+        let way : Bool = now .clear || now .due in
+        let (two, third) = and-yes (free && way) (faultStanding past) (so (now .exited) (free && way && faultStanding past) (rules .1) exited) in
+        let (first, second) = and-yes free way two in
+        (first, second, third)
 
-  pub no-cause-at-exit : T (now .exited) → T (not (now .causeStood))
-  no-cause-at-exit exited = exits exited .0
+    pub no-cause-at-exit : T (not (now .causeStood))
+    no-cause-at-exit = exits .0
 
-  pub clear-or-timed-retry : T (now .exited) → T (now .clear || now .due)
-  clear-or-timed-retry exited = exits exited .1
+    pub clear-or-timed-retry : T (now .clear || now .due)
+    clear-or-timed-retry = exits .1
+
+    pub only-after-a-trip : T (faultStanding past)
+    only-after-a-trip = exits .2
 
   -- "The timed retries since the later of the last accepted load and the last clear that ended a trip never exceed the loaded limit."
   pub retries-within-limit : retries (now ∷ past) ≤ now .limit

@@ -1,8 +1,10 @@
--- What an answer shows: the gates charge or drive where no flag is live and the state is one of the six; the live word is 0 where none
--- is live.
+-- What an answer shows: the gates charge or drive where no flag is live and the state is one of the six; the live word is not 0 where
+-- one is live.
 use mathlib.Core.Path.{_≡_, refl}
 use mathlib.Core.Bool.{Bool, true, false, not, _&&_, _||_}
-use Prim.Native.Nat.{ℕ}
+use Prim.Native.Nat.{ℕ, _<_}
+use native.Mathlib.Omega.{arith}
+use borrow.Author.Tests.{ne-eqb}
 use lib.Dec.{T, eqb}
 use Rattle.numbers.specs.Choose.{pick}
 use Rattle.history.proofs.Bools.{or-left, or-right}
@@ -51,20 +53,24 @@ module _ (f : Flags) where
 pub gates-by : (state : State) (f : Flags) → charges-or-drives (gate state f) ≡ (not (any f) && turning state)
 gates-by state f = by-flags (f .kill) (f .critical) (any f) state (from-kill f) (from-critical f)
 
-no-bits :
-    (a b c d e f g h i : Bool)
-    → T (not (a || b || c || d || e || f || g || h || i))
-    → word (record { kill = a; critical = b; over = c; under = d; flux = e; heat = f; lock = g; timeout = h; hall = i }) ≡ 0
-no-bits true b c d e f g h i t = absurd t
-no-bits false true c d e f g h i t = absurd t
-no-bits false false true d e f g h i t = absurd t
-no-bits false false false true e f g h i t = absurd t
-no-bits false false false false true f g h i t = absurd t
-no-bits false false false false false true g h i t = absurd t
-no-bits false false false false false false true h i t = absurd t
-no-bits false false false false false false false true i t = absurd t
-no-bits false false false false false false false false true t = absurd t
-no-bits false false false false false false false false false t = refl
+-- the live word is not 0 just where a flag is live: each adds a power of two
+positive : (n : ℕ) → 0 < n → not (eqb n 0) ≡ true
+positive n some = rw (ne-eqb n 0 (λ none. omega arith))
 
-pub no-word : (f : Flags) → T (not (any f)) → word f ≡ 0
-no-word f = no-bits (f .kill) (f .critical) (f .over) (f .under) (f .flux) (f .heat) (f .lock) (f .timeout) (f .hall)
+abbrev flags : (a b c d e f g h i : Bool) → Flags
+flags a b c d e f g h i = record { kill = a; critical = b; over = c; under = d; flux = e; heat = f; lock = g; timeout = h; hall = i }
+
+nine : (a b c d e f g h i : Bool) → not (eqb (word (flags a b c d e f g h i)) 0) ≡ any (flags a b c d e f g h i)
+nine true b c d e f g h i = positive (word (flags true b c d e f g h i)) (omega arith)
+nine false true c d e f g h i = positive (word (flags false true c d e f g h i)) (omega arith)
+nine false false true d e f g h i = positive (word (flags false false true d e f g h i)) (omega arith)
+nine false false false true e f g h i = positive (word (flags false false false true e f g h i)) (omega arith)
+nine false false false false true f g h i = positive (word (flags false false false false true f g h i)) (omega arith)
+nine false false false false false true g h i = positive (word (flags false false false false false true g h i)) (omega arith)
+nine false false false false false false true h i = positive (word (flags false false false false false false true h i)) (omega arith)
+nine false false false false false false false true i = positive (word (flags false false false false false false false true i)) (omega arith)
+nine false false false false false false false false true = positive (word (flags false false false false false false false false true)) (omega arith)
+nine false false false false false false false false false = refl
+
+pub word-shows : (f : Flags) → not (eqb (word f) 0) ≡ any f
+word-shows f = nine (f .kill) (f .critical) (f .over) (f .under) (f .flux) (f .heat) (f .lock) (f .timeout) (f .hall)

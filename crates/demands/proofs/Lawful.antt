@@ -1,5 +1,5 @@
 -- This drive obeys the laws of demand 3 at every call, and so demand 3 holds of the log of every sequence of its calls.
-use mathlib.Core.Path.{_≡_, refl, sym, subst}
+use mathlib.Core.Path.{_≡_, refl, ap, sym, subst}
 use mathlib.Core.Bool.{Bool, true, false, not, _&&_, _||_}
 use mathlib.Core.List.{List}
 use Prim.Native.Nat.{ℕ, _≤_, zero-le}
@@ -40,8 +40,9 @@ use Rattle.reached.proofs.Verdicts.{passed, accepted-state}
 use Rattle.reached.proofs.Flags.{stays-with-hall}
 use Rattle.reached.proofs.Keeps.{reached-power-up, cycled-reached, call-keeps}
 use Rattle.reached.proofs.Corollaries.{disarmed-in-fault, low-excludes-high}
-use Rattle.demands.specs.Supervised.{words, DriveDemand3}
-use Rattle.demands.proofs.Shown.{inside, gates-ask, shows-running, shows-no-fault, shows-no-dead}
+use Rattle.demands.specs.Supervised.{words, deadCauseOf, DriveDemand3}
+use Rattle.demands.proofs.Shown.{inside, fault-shown, gates-ask, dark, shows-turning}
+use Rattle.demands.proofs.Causes.{dead-shows}
 use Rattle.demands.proofs.Remembers.{Remembers, remembers-power-up, afterRefused, refused-remembers, load-remembers, cycle-remembers, tick-remembers}
 use Rattle.demands.proofs.Ticks
 use Rattle.demands.proofs.Tests.{fails-left, fails-right, never-both, idle-or-stop}
@@ -100,6 +101,19 @@ module _ (d : Drive) (r : Reached d) (memory : Memory) (knows : Remembers d memo
           retries = d .retries;
         }
 
+    -- a dead streak of 2 is flagged as long as it stands; in IDLE there is none
+    dead-faults :
+        (now : Memory)
+        → Reached stood
+        → Remembers stood now
+        → T (deadCauseOf (now .numbers) (now .dead))
+        → T (any (alive stood))
+    dead-faults now r-now knows-now cause =
+        decide (is 0 (d .state))
+        (λ idle.
+        let none : hall .dead ≡ 0 = ap (λ (e : Drive). e .hall .dead) (r-now .idle idle) in absurd (rw (knows-now .dead, none) at cause))
+        (λ outside. dead-shows stood r-now (rw (knows-now .loaded outside, knows-now .dead) at cause))
+
     stands :
         (number at : ℕ) (now : Memory)
         → Reached stood
@@ -111,6 +125,10 @@ module _ (d : Drive) (r : Reached d) (memory : Memory) (knows : Remembers d memo
     stands number at now r-now more knows-now same =
         Steps.passes-by (inside d) (noted words memory neither now (answer number at stood)) (inside stood) (gates-ask number at stood)
         (rw same within)
+        (fault-shown number at stood)
+        (dead-faults now r-now knows-now)
+        (λ was keeps. more was)
+        (dark number at stood)
         tt
         (fails-right (eqb (now .shown) 3 && eqb (memory .shown) 1) false tt)
         (rw (knows .shown, knows-now .shown) (never-both (turning (d .state))))
@@ -118,12 +136,10 @@ module _ (d : Drive) (r : Reached d) (memory : Memory) (knows : Remembers d memo
         (λ is. is)
         (or-left (d .armed) false)
         (λ turns.
-        let (runs, dark) = and-yes (turning (d .state)) (not (any (alive stood))) turns in
-        let shown = shows-running number at stood turns in
-        let no-fault = shows-no-fault number at stood turns in
-        let no-dead = shows-no-dead number at stood turns r-now in
-        let was = contrary (any (alive d)) (any (alive stood)) more dark in
-        rw (knows-now .shown, knows-now .loaded (turning-is (d .state) runs .not-idle), knows-now .dead) (search joins depth 9))
+        let (runs, dim) = and-yes (turning (d .state)) (not (any (alive stood))) turns in
+        let drives = shows-turning number at stood turns in
+        let was = contrary (any (alive d)) (any (alive stood)) more dim in
+        rw (knows-now .shown) (search joins))
         refl
 
   module _ (call : Call) (number at : ℕ) (not-0 : eqb number 0 ≡ false) where
@@ -156,6 +172,7 @@ module _ (d : Drive) (r : Reached d) (memory : Memory) (knows : Remembers d memo
         remembers = load-remembers d memory knows numbers;
         obeys =
             Steps.loads (inside d) _ (inside (fresh Stop numbers)) (gates-ask 0 0 (fresh Stop numbers)) zero-le
+            (fault-shown 0 0 (fresh Stop numbers)) (λ cause. cause) (λ was keeps. absurd keeps) (dark 0 0 (fresh Stop numbers))
             tt tt
             (rw (knows .shown) (fails-left (is 5 (d .state)) true (idle-or-stop (numberOf (d .state)) admitted)))
             tt tt refl;
@@ -193,6 +210,7 @@ module _ (d : Drive) (r : Reached d) (memory : Memory) (knows : Remembers d memo
               outside
               (not-both (is 5 (d .state)) (d .armed) (λ fault. rw (disarmed-in-fault d r fault) tt))
               (knows .waited)
+              (r .tripped)
               (λ is-high. not-T (low (d .settings) t) (λ is-low. low-excludes-high d r t outside is-low is-high)));
         }
 

@@ -4,11 +4,13 @@ use mathlib.Core.Path.{_≡_, refl}
 use mathlib.Core.Bool.{Bool, true, false, not, _&&_}
 use mathlib.Core.List.{List, [], _∷_, _++_, reverse}
 use Prim.Native.Nat.{ℕ}
+use lib.Dec.{eqb}
 use lib.IntN.{pos}
+use lib.ListN.{drop}
 use Rattle.numbers.specs.Choose.{pick}
 use Rattle.history.specs.Log.{Machine, stateAfter, log}
 use Rattle.history.specs.Onlooker.{memoryOf, notes}
-use Rattle.history.specs.History.{Seen, lowSince, retrySince, everLoaded, permitted, startTaken, beforeStart, gatesRule, retries, retryRule, holds}
+use Rattle.history.specs.History.{Seen, lowSince, retrySince, everLoaded, permitted, faultStanding, startTaken, beforeStart, gatesRule, exitRule, retries, retryRule, holds}
 use Rattle.states.specs.States.{is}
 use Rattle.states.specs.declared.State.{State}
 use Rattle.states.specs.declared.State.the-variants.{Idle, Stop, MotorRun}
@@ -21,7 +23,7 @@ use Rattle.drive.specs.declared.Drive.{Drive}
 use Rattle.drive.specs.declared.answer.Answer.{Answer}
 use Rattle.drive.specs.declared.answer.Reply.{Reply}
 use Rattle.demands.proofs.Computes.{computes}
-use Rattle.demands.specs.Calls.{loaded, loadedInMode1, shows, tickWith, low, high, over, clear, ready, started}
+use Rattle.demands.specs.Calls.{settingsWith, loaded, loadedInMode1, shows, tickWith, low, high, over, clear, ready, started}
 use Rattle.demands.specs.Supervised.{words}
 
 -- a drive is what it replies in each state
@@ -44,13 +46,13 @@ machineOf replies =
 abbrev Hides : Type 0
 Hides = Tick → Tick
 
-abbrev hiding : (kill command raw filtered temperature : ℕ → ℕ) → Hides
-hiding kill command raw filtered temperature t =
+abbrev hiding : (kill command control raw filtered temperature : ℕ → ℕ) → Hides
+hiding kill command control raw filtered temperature t =
     record {
       kill = kill (t .kill);
       clear = t .clear;
       command = command (t .command);
-      control = t .control;
+      control = control (t .control);
       raw = raw (t .raw);
       filtered = filtered (t .filtered);
       temperature = temperature (t .temperature);
@@ -67,19 +69,22 @@ abbrev seen : ℕ → ℕ
 seen number = number
 
 abbrev hidesKill : Hides
-hidesKill = hiding (always 0) seen seen seen seen
+hidesKill = hiding (always 0) seen seen seen seen seen
 
 abbrev hidesCommand : Hides
-hidesCommand = hiding seen (always 1) seen seen seen
+hidesCommand = hiding seen (always 1) seen seen seen seen
+
+abbrev hidesControl : Hides
+hidesControl = hiding seen seen (always 400) seen seen seen
 
 abbrev hidesRaw : Hides
-hidesRaw = hiding seen seen (always 2623) seen seen
+hidesRaw = hiding seen seen seen (always 2623) seen seen
 
 abbrev hidesFiltered : Hides
-hidesFiltered = hiding seen seen seen (always 2623) seen
+hidesFiltered = hiding seen seen seen seen (always 2623) seen
 
 abbrev hidesTemperature : Hides
-hidesTemperature = hiding seen seen seen seen (always 1000)
+hidesTemperature = hiding seen seen seen seen seen (always 1000)
 
 abbrev blindWhere : (State → Bool) → Hides → Replies
 blindWhere there hide d (loads numbers) = reply d (loads numbers)
@@ -100,10 +105,9 @@ blindToDeadSamples d (ticks fields) = reply d (ticks fields)
 
 -- ---- drives that lie
 
--- the gate ignores every fault, though the state is right
-abbrev gateIgnoresFaults : Replies
-gateIgnoresFaults d call =
-    let r : Reply = reply d call in
+-- the same reply with another gate
+abbrev showing : ℕ → Reply → Reply
+showing gate r =
     let a : Answer = r .answer in
     record {
       drive = r .drive;
@@ -112,7 +116,7 @@ gateIgnoresFaults d call =
             number = a .number;
             place = a .place;
             state = a .state;
-            gate = gateOf (r .drive .state);
+            gate = gate;
             live = a .live;
             reference = a .reference;
             position = a .position;
@@ -121,6 +125,20 @@ gateIgnoresFaults d call =
             retries = a .retries;
           };
     }
+
+-- the gate ignores every fault, though the state is right
+abbrev gateIgnoresFaults : Replies
+gateIgnoresFaults d call = let r : Reply = reply d call in showing (gateOf (r .drive .state)) r
+
+-- in FAULT the gate has a number that the paper does not know
+abbrev gateOfNoName : Replies
+gateOfNoName d call = let r : Reply = reply d call in pick (is 5 (r .drive .state)) (showing 4 r) r
+
+-- a stray sample shuts the gates, with nothing else to show for it
+abbrev gateRests : Replies
+gateRests d (loads numbers) = reply d (loads numbers)
+gateRests d (cycles fields) = let r : Reply = reply d (cycles fields) in pick (eqb (fields .pattern) 6) (showing 0 r) r
+gateRests d (ticks fields) = reply d (ticks fields)
 
 -- moved to a state, with no flag and all else as it was
 abbrev put : State → Drive → Drive
@@ -133,6 +151,13 @@ tripsInSilence d (cycles fields) = reply d (cycles fields)
 tripsInSilence d (ticks fields) =
     let next : Drive = reply d (ticks fields) .drive in
     pick (is 5 (d .state)) (replied 0 0 (put MotorRun d)) (replied 0 0 (pick (is 5 (next .state)) (put (next .state) next) next))
+
+-- a trip goes to STOP, and no flag is left of it
+abbrev stopsAtATrip : Replies
+stopsAtATrip d (loads numbers) = reply d (loads numbers)
+stopsAtATrip d (cycles fields) = reply d (cycles fields)
+stopsAtATrip d (ticks fields) =
+    let next : Drive = reply d (ticks fields) .drive in pick (is 5 (next .state)) (replied 0 0 (put Stop next)) (replied 0 0 next)
 
 -- a dead sample sends MOTORRUN to IDLE, and the next sample sends it back
 abbrev nods : Replies
@@ -163,6 +188,13 @@ retriesAtOnce d (ticks fields) = pick (is 5 (d .state)) (replied 0 0 (retried d)
 -- the run up to MOTORRUN, in mode 0
 abbrev running : List Call
 running = ready loaded ++ started 5
+
+-- .. in mode 1, and with no bit of FaultEnable but that of flag 2
+abbrev runningInMode1 : List Call
+runningInMode1 = ready loadedInMode1 ++ started 5
+
+abbrev runningWithBit2 : List Call
+runningWithBit2 = ready (loads (0 ∷ 4 ∷ drop 2 (settingsWith 0 0))) ++ started 5
 
 -- ticks with one thing wrong, the command high: gate kill, VdcRaw, VdcFilt too high, too low; the temperature; a low
 abbrev hot : Call
@@ -199,27 +231,33 @@ abbrev rows : List Row
 rows =
     -- "the answer's gate ignores every fault, though the state is right"
     (gateIgnoresFaults, running ++ (shows 0 ∷ shows 0 ∷ [])) ∷
+    (gateOfNoName, running ++ (over ∷ [])) ∷
     -- "gate kill raises no flag in MOTORRUN"; so for the other causes that a tick and the samples tell
     (blindInMotorRun hidesKill, running ++ (kill 0 ∷ [])) ∷
     (blindInMotorRun hidesRaw, running ++ (brake ∷ [])) ∷
     (blindInMotorRun hidesFiltered, running ++ (over ∷ [])) ∷
     (blindInMotorRun hidesFiltered, running ++ (under ∷ [])) ∷
+    (blindInMotorRun hidesFiltered, runningWithBit2 ++ (over ∷ [])) ∷
     (blindInMotorRun hidesTemperature, running ++ (hot ∷ [])) ∷
     (blindToDeadSamples, running ++ (shows 0 ∷ shows 7 ∷ [])) ∷
     -- "gate kill counts as a cause in MOTORRUN only, so FAULT is left .. with gate kill held"
     (blindElsewhere hidesKill, running ++ (kill 0 ∷ kill 1 ∷ [])) ∷
     -- "a supervisor that trips without showing a flag, stands in FAULT and runs again with no start"
     (tripsInSilence, running ++ (over ∷ high ∷ [])) ∷
+    -- a trip of which nothing is shown, and a start after it; gates that rest, and turn again with no start
+    (stopsAtATrip, running ++ (over ∷ low ∷ high ∷ [])) ∷
+    (gateRests, running ++ (shows 6 ∷ shows 1 ∷ [])) ∷
     -- "RUN to IDLE and back to RUN without a start"
     (nods, running ++ (shows 0 ∷ shows 1 ∷ [])) ∷
     -- "FAULT left in a cycle or a load, the cause still there"
     (leavesInACycle, running ++ (over ∷ shows 1 ∷ [])) ∷
     (leavesByALoad, running ++ (over ∷ loaded ∷ [])) ∷
     -- "a 'retry' at FAULT's first tick, or in mode 0"
-    (retriesAtOnce, ready loadedInMode1 ++ started 5 ++ (over ∷ high ∷ [])) ∷
+    (retriesAtOnce, runningInMode1 ++ (over ∷ high ∷ [])) ∷
     (retriesAtOnce, running ++ (over ∷ high ∷ [])) ∷
-    -- a low that is not heeded
+    -- a low that is not heeded, in mode 0 and, by the control level alone, in mode 1
     (blindInMotorRun hidesCommand, running ++ (low ∷ [])) ∷
+    (blindInMotorRun hidesControl, runningInMode1 ++ (tickWith 0 0 1 300 2623 2623 0 700 ∷ [])) ∷
     []
 
 abbrev noted : Replies → List Call → List Seen
@@ -235,9 +273,9 @@ all test [] = true
 all test (row ∷ rest) = test row && all test rest
 
 pub each-is-caught : all (λ row. breaksNow (noted (row .0) (row .1))) rows ≡ true
-unfolding log notes stateAfter memoryOf holds gatesRule retryRule retries startTaken beforeStart permitted everLoaded lowSince retrySince computes
+unfolding log notes stateAfter memoryOf holds gatesRule exitRule faultStanding retryRule retries startTaken beforeStart permitted everLoaded lowSince retrySince computes
 each-is-caught = refl
 
 pub this-drive-passes : all (λ row. holds (noted reply (row .1))) rows ≡ true
-unfolding log notes stateAfter memoryOf holds gatesRule retryRule retries startTaken beforeStart permitted everLoaded lowSince retrySince computes
+unfolding log notes stateAfter memoryOf holds gatesRule exitRule faultStanding retryRule retries startTaken beforeStart permitted everLoaded lowSince retrySince computes
 this-drive-passes = refl

@@ -8,7 +8,7 @@ use lib.Dec.{T, leb, le→leb}
 use lib.Ieee.Bits.{is-true}
 use mir.Facts.{and-yes, yes-and}
 use Rattle.history.specs.Onlooker.{Memory, note}
-use Rattle.history.specs.History.{Seen, undisturbed}
+use Rattle.history.specs.History.{Seen, disturbed}
 use Rattle.history.specs.Laws.{Step}
 use Rattle.history.proofs.Bools.{contrary, never, joins}
 use Rattle.history.proofs.Steps
@@ -36,7 +36,7 @@ use Rattle.reached.proofs.States.{turns as turning-is}
 use Rattle.demands.specs.Supervised.{words, causeOf, deadCauseOf}
 use Rattle.demands.proofs.Tests.{fails-left, fails-right, never-both, arming, unarmed, one-state}
 use Rattle.demands.proofs.Causes.{found-blocks, found-trips}
-use Rattle.demands.proofs.Shown.{inside, gates-ask, shows-running, shows-no-fault}
+use Rattle.demands.proofs.Shown.{inside, fault-shown, gates-ask, dark, shows-running, shows-turning}
 
 -- ---- a tick in a state, of a drive whose other fields are anything, with an onlooker who remembers what is so
 
@@ -77,123 +77,147 @@ module _ (settings : List ℕ) (hall : Hall) (flags : Flags) (cycles count : ℕ
 
   -- what he finds in the tick and the samples
   abbrev found : Bool
-  found = deadCauseOf settings (hall .dead) || causeOf settings t
+  found = causeOf settings t || deadCauseOf settings (hall .dead)
 
-  -- a tick by which the drive turns, with no low and no live flag, disturbs nothing
+  -- a tick by which the drive turns, with no low, disturbs nothing
   undisturbed-by :
       (state : State) (after : Drive)
       → T (not (low settings t))
-      → T (not (tripped state))
       → T (inside after .turning)
-      → T (undisturbed (noteOf state after))
+      → T (not (disturbed (noteOf state after)))
   unfolding answer
-  undisturbed-by state after no-low calm turns =
+  undisturbed-by state after no-low turns =
       let runs = shows-running 0 0 after turns in
-      let dark = shows-no-fault 0 0 after turns in
-      let no-cause = contrary found (tripped state) (found-trips (at state) t) calm in
+      let drives = shows-turning 0 0 after turns in
       search joins
+
+  -- flags that were live stay live
+  kept : (state : State) → T (any (alive (at state))) → T (tripped state)
+  kept state = stays-with-causes (FaultEnable settings) flags (standing (at state) t)
 
   -- a drive that turned before, with no low and no live flag, turns on
   turned-before : (state : State) → T (turning state) → T (not (tripped state)) → T (inside (at state) .turning)
   turned-before state runs calm =
       yes-and (turning state) (not (any (alive (at state)))) runs
-      (contrary (any (alive (at state))) (tripped state) (stays-with-causes (FaultEnable settings) flags (standing (at state) t)) calm)
-
-  -- a tick that neither starts nor leaves FAULT, and after which nothing turns
-  rests :
-      (state : State) (after : Drive)
-      → T (not (is 0 state))
-      → T (not (noteOf state after .started))
-      → T (not (noteOf state after .exited))
-      → (T (after .armed) → T (armed || low settings t))
-      → T (not (turning (after .state)))
-      → used ≤ RetryLimit settings
-      → after .retries ≡ used
-      → Obeys state after
-  unfolding answer
-  rests state after loaded no-start no-exit arms still within same =
-      Steps.passes-by (inside (at state)) (noteOf state after) (inside after) (gates-ask 0 0 after) (rw same within) tt no-start
-      (fails-left (turning (after .state)) (not (turning state)) still)
-      no-exit
-      (λ now. loaded)
-      arms
-      (λ now. never (turning (after .state)) still (and-yes (turning (after .state)) (not (any (alive after))) now .0))
-      same
+      (contrary (any (alive (at state))) (tripped state) (kept state) calm)
 
   -- where no live cause stands he finds none
   no-cause : T (not (alight (at Fault) (standing (at Fault) t))) → T (not found)
   no-cause = contrary found (alight (at Fault) (standing (at Fault) t)) (found-blocks (at Fault) t)
 
   module _ (used-few : used ≤ RetryLimit settings) where
+    -- a tick that leaves the flags as raised: what is left to show of it
+    passes :
+        (state : State) (after : Drive)
+        → after .retries ≡ used
+        → any (alive after) ≡ tripped state
+        → T (not (noteOf state after .started))
+        → T (not (noteOf state after .began))
+        → T (not (noteOf state after .exited))
+        → T (not (is 0 state))
+        → (T (after .armed) → T (armed || low settings t))
+        → (T (inside after .turning) → T (not (disturbed (noteOf state after)) && inside (at state) .turning))
+        → Obeys state after
+    unfolding answer
+    passes state after same raises no-start none-began no-exit loaded arms turning =
+        Steps.passes-by (inside (at state)) (noteOf state after) (inside after) (gates-ask 0 0 after) (rw same used-few)
+        (fault-shown 0 0 after)
+        (λ cause. rw raises (found-trips (at state) t cause))
+        (λ was keeps. rw raises (kept state was))
+        (dark 0 0 after)
+        tt no-start none-began no-exit
+        (λ now. loaded)
+        arms
+        turning
+        same
+
+    -- a tick that neither starts nor leaves FAULT, and after which nothing turns
+    rests :
+        (state : State) (after : Drive)
+        → after .retries ≡ used
+        → any (alive after) ≡ tripped state
+        → T (not (noteOf state after .started))
+        → T (not (noteOf state after .exited))
+        → T (not (is 0 state))
+        → (T (after .armed) → T (armed || low settings t))
+        → T (not (turning (after .state)))
+        → Obeys state after
+    unfolding answer
+    rests state after same raises no-start no-exit loaded arms still =
+        passes state after same raises no-start (fails-left (turning (after .state)) (not (turning state)) still) no-exit loaded arms
+        (λ now. never (turning (after .state)) still (and-yes (turning (after .state)) (not (any (alive after))) now .0))
+
     by-move :
         (state : State) (move : Move)
         → T (not (is 0 state))
         → T (not (is 5 state && armed))
         → (T (is 5 state) → count ≤ waited)
+        → (T (is 5 state) → T (any (alive (at state))))
         → (T (high settings t) → T (not (low settings t)))
         → Way (on state) state move
         → Obeys state (next state move)
     unfolding answer
-    by-move state Stay loaded fault late apart (stays quiet calm) =
+    by-move state Stay loaded fault late trip apart (stays quiet calm) =
         let after = next state Stay in
-        Steps.passes-by (inside (at state)) (noteOf state after) (inside after) (gates-ask 0 0 after) used-few
-        tt (one-state (numberOf state) (high settings t)) (never-both (turning state)) (never-both (is 5 state))
-        (λ now. now)
+        passes state after refl refl
+        (one-state (numberOf state) (high settings t))
+        (never-both (turning state))
+        (never-both (is 5 state))
+        loaded
         (arming armed (low settings t) (not (is 5 state)))
         (λ now.
-        let (runs, dark) = and-yes (turning state) (not (tripped state)) now in
-        yes-and (undisturbed (noteOf state after)) (inside (at state) .turning)
-        (undisturbed-by state after (quiet runs) dark now)
-        (turned-before state runs dark))
-        refl
-    by-move state (Enter Fault) loaded fault late apart (trips free trip) =
-        rests state (next state (Enter Fault)) loaded tt (fails-right (is 5 state) false tt)
+        let (runs, dim) = and-yes (turning state) (not (tripped state)) now in
+        yes-and (not (disturbed (noteOf state after))) (inside (at state) .turning)
+        (undisturbed-by state after (quiet runs) now)
+        (turned-before state runs dim))
+    by-move state (Enter Fault) loaded fault late trip apart (trips free tripping) =
+        rests state (next state (Enter Fault)) refl refl tt (fails-right (is 5 state) false tt) loaded
         (λ now. arming armed (low settings t) (not (is 5 state)) (and-yes (arms (at state) t) false now .0))
-        tt used-few refl
-    by-move state (Enter Stop) loaded fault late apart (stops runs is-low calm) =
-        rests state (next state (Enter Stop)) loaded tt
-        (fails-left (is 5 state) true (turning-is state runs .not-fault))
+        tt
+    by-move state (Enter Stop) loaded fault late trip apart (stops runs is-low calm) =
+        rests state (next state (Enter Stop)) refl refl tt (fails-left (is 5 state) true (turning-is state runs .not-fault)) loaded
         (λ now. arming armed (low settings t) (not (is 5 state)) (and-yes (arms (at state) t) true now .0))
-        tt used-few refl
-    by-move Stop (Enter OffsetCal) loaded fault late apart (calibrates unmeasured calm) =
-        rests Stop (next Stop (Enter OffsetCal)) tt tt tt
+        tt
+    by-move Stop (Enter OffsetCal) loaded fault late trip apart (calibrates unmeasured calm) =
+        rests Stop (next Stop (Enter OffsetCal)) refl refl tt tt tt
         (λ now. arming armed (low settings t) true (and-yes (arms (at Stop) t) true now .0))
-        tt used-few refl
-    by-move Stop (Enter BtsCharge) loaded fault late apart (starts measured is-armed is-high calm) =
+        tt
+    by-move Stop (Enter BtsCharge) loaded fault late trip apart (starts measured is-armed is-high calm) =
         let after = next Stop (Enter BtsCharge) in
         Steps.starts (inside (at Stop)) (noteOf Stop after) (inside after) (gates-ask 0 0 after) used-few
+        (fault-shown 0 0 after) (found-trips (at Stop) t) (λ was keeps. kept Stop was) (dark 0 0 after)
         tt is-high tt tt is-armed
         (fails-right (arms (at Stop) t) false tt)
-        (undisturbed-by Stop after (apart is-high) calm)
+        (undisturbed-by Stop after (apart is-high))
         refl
-    by-move state (Enter onto) loaded fault late apart (goes-on runs onward no-low calm) =
+    by-move state (Enter onto) loaded fault late trip apart (goes-on runs onward no-low calm) =
         let after = next state (Enter onto) in
-        Steps.passes-by (inside (at state)) (noteOf state after) (inside after) (gates-ask 0 0 after) used-few
-        tt
+        passes state after refl refl
         (fails-left (is 3 onto && is 1 state) (high settings t)
         (fails-left (is 3 onto) (is 1 state) (and-yes (turning onto) (not (is 3 onto)) onward .1)))
         (fails-right (turning onto) (not (turning state)) (rw (is-true (turning state) runs) tt))
         (fails-left (is 5 state) (not (is 5 onto)) (turning-is state runs .not-fault))
-        (λ now. loaded)
+        loaded
         (λ now. arming armed (low settings t) (not (is 5 state)) (and-yes (arms (at state) t) (not (is 3 onto || is 5 onto)) now .0))
         (λ now.
-        yes-and (undisturbed (noteOf state after)) (inside (at state) .turning)
-        (undisturbed-by state after no-low calm now)
+        yes-and (not (disturbed (noteOf state after))) (inside (at state) .turning)
+        (undisturbed-by state after no-low now)
         (turned-before state runs calm))
-        refl
-    by-move OffsetCal Measure loaded fault late apart (measures done calm) =
-        rests OffsetCal (next OffsetCal Measure) tt tt tt (arming armed (low settings t) true) tt used-few refl
-    by-move Fault Clear loaded fault late apart (clears free clear) =
+    by-move OffsetCal Measure loaded fault late trip apart (measures done calm) =
+        rests OffsetCal (next OffsetCal Measure) refl refl tt tt tt (arming armed (low settings t) true) tt
+    by-move Fault Clear loaded fault late trip apart (clears free clear) =
         let after = next Fault Clear in
         Steps.clears (inside (at Fault)) (noteOf Fault after) (inside after) (gates-ask 0 0 after) zero-le
-        tt tt tt tt (no-cause free) (λ now. tt) tt clear
+        (fault-shown 0 0 after) (never found (no-cause free)) (λ was keeps. absurd keeps) (dark 0 0 after)
+        tt tt tt tt (no-cause free) (trip tt) (λ now. tt) tt clear
         (unarmed armed (low settings t) fault)
         refl
-    by-move Fault Retry loaded fault late apart (tries-again free no-clear mode nth room) =
+    by-move Fault Retry loaded fault late trip apart (tries-again free no-clear mode nth room) =
         let after = next Fault Retry in
         let before = late tt in
         Steps.retries (inside (at Fault)) (noteOf Fault after) (inside after) (gates-ask 0 0 after) (omega arith)
-        tt tt tt tt (no-cause free) (λ now. tt) tt no-clear
+        (fault-shown 0 0 after) (never found (no-cause free)) (λ was keeps. absurd keeps) (dark 0 0 after)
+        tt tt tt tt (no-cause free) (trip tt) (λ now. tt) tt no-clear
         (yes-and (mode1 settings) (leb 10000 (suc waited)) mode (le→leb 10000 (suc waited) (omega arith)))
         (omega (arith, room))
 
@@ -203,7 +227,9 @@ module _ (settings : List ℕ) (hall : Hall) (flags : Flags) (cycles count : ℕ
         → T (not (is 0 state))
         → T (not (is 5 state && armed))
         → (T (is 5 state) → count ≤ waited)
+        → (T (is 5 state) → T (any (alive (at state))))
         → (T (high settings t) → T (not (low settings t)))
         → Obeys state (ticked (at state) t)
     unfolding ticked
-    tick-obeys state loaded fault late apart = by-move state (chosen (at state) t) loaded fault late apart (way-of (on state))
+    tick-obeys state loaded fault late trip apart =
+        by-move state (chosen (at state) t) loaded fault late trip apart (way-of (on state))

@@ -1,19 +1,18 @@
 -- This drive as the onlooker of demand 3 knows it: the words of its calls and answers, and the demand of it. The numbers here are those of
--- a load, a sample or a tick, or shown by an answer: nothing is read off the drive's state. Causes 0, 1, 2, 3, 6 and 15 are told by what
--- comes in. Causes 4, 7 and 14, which the drive counts over many ticks in MOTORRUN, only the live word tells: no exit from FAULT needs them.
-use Prim.Native.Nat.{ℕ}
+-- a load, a sample or a tick, or shown by an answer: nothing is read off the drive's state, and no definition is the drive's own, so that a
+-- drive which is wrong in definition and code alike does not agree with itself. Causes 0, 1, 2, 3, 6 and 15 are told by what comes in.
+-- Causes 4, 7 and 14, which the drive counts over many ticks in MOTORRUN, only the live word tells: no exit from FAULT needs them.
+use Prim.Native.Nat.{ℕ, _-_, _/_, _%_, _^_}
 use mathlib.Core.Bool.{Bool, not, _&&_, _||_}
 use mathlib.Core.List.{List}
-use lib.Dec.{eqb, ltb}
+use lib.Dec.{eqb, ltb, leb}
+use lib.ListN.{getD}
 use Rattle.numbers.specs.Choose.{pick}
 use Rattle.numbers.specs.Count.{up}
 use Rattle.history.specs.Log.{log}
 use Rattle.history.specs.Onlooker.{Asked, load, tick, neither, Words, notes}
 use Rattle.history.specs.History.{Demand3}
 use Rattle.reached.specs.Calls.{machine}
-use Rattle.settings.specs.Settings.{FaultEnable, VdcOvLevel, VdcLvLevel, CriticalOvLevel, Tshutdown, RetryLimit, mode1}
-use Rattle.drive.specs.Command.{low, high}
-use Rattle.drive.specs.Flags.{bit}
 use Rattle.drive.specs.AnyCall.{Call, loads, cycles, ticks}
 use Rattle.drive.specs.declared.answer.Answer.{Answer}
 use Rattle.fields.specs.declared.Tick.{Tick}
@@ -30,19 +29,38 @@ deadAfter (loads numbers) dead = 0
 deadAfter (cycles fields) dead = pick (eqb (fields .pattern) 0 || eqb (fields .pattern) 7) (up 2 dead) 0
 deadAfter (ticks fields) dead = dead
 
+-- the loaded numbers by the paper's places: 1 ControlMode, 2 FaultEnable, 3 VdcOvLevel, 4 VdcLvLevel, 5 CriticalOvLevel, 6 Tshutdown,
+-- 21 CmdStart, 22 CmdStop, 24 RetryLimit
+abbrev pub setting : ℕ → List ℕ → ℕ
+setting n s = getD s (n - 1) 0
+
+abbrev pub isMode1 : List ℕ → Bool
+isMode1 s = eqb (setting 1 s) 1
+
+-- "A flag is live if its FaultEnable bit is 1"
+abbrev pub enabled : ℕ → List ℕ → Bool
+enabled flag s = eqb (setting 2 s / 2 ^ flag % 2) 1
+
+-- "Mode 0: low is command 0, high is command 1. Mode 1: low is control at most CmdStop, high is control at least CmdStart."
+abbrev pub lowOf : List ℕ → Tick → Bool
+lowOf s t = pick (isMode1 s) (leb (t .control) (setting 22 s)) (eqb (t .command) 0)
+
+abbrev pub highOf : List ℕ → Tick → Bool
+highOf s t = pick (isMode1 s) (leb (setting 21 s) (t .control)) (eqb (t .command) 1)
+
 -- "0: gate kill is 1. 1: VdcRaw above CriticalOvLevel. 2: VdcFilt above VdcOvLevel. 3: VdcFilt below VdcLvLevel. 6: temperature above
--- Tshutdown."; "A flag is live if its FaultEnable bit is 1; 0 and 1 are always live."
+-- Tshutdown."; "0 and 1 are always live"
 abbrev pub causeOf : List ℕ → Tick → Bool
 causeOf s t =
     eqb (t .kill) 1
-    || ltb (CriticalOvLevel s) (t .raw)
-    || ltb (VdcOvLevel s) (t .filtered) && bit 2 (FaultEnable s)
-    || ltb (t .filtered) (VdcLvLevel s) && bit 3 (FaultEnable s)
-    || ltb (Tshutdown s) (t .temperature) && bit 6 (FaultEnable s)
+    || ltb (setting 5 s) (t .raw)
+    || ltb (setting 3 s) (t .filtered) && enabled 2 s
+    || ltb (t .filtered) (setting 4 s) && enabled 3 s
+    || ltb (setting 6 s) (t .temperature) && enabled 6 s
 
 -- "15: dead streak is 2."
 abbrev pub deadCauseOf : List ℕ → ℕ → Bool
-deadCauseOf s dead = eqb dead 2 && bit 15 (FaultEnable s)
+deadCauseOf s dead = eqb dead 2 && enabled 15 s
 
 abbrev pub words : Words Call Answer
 words =
@@ -60,16 +78,16 @@ words =
       isStart = λ n. eqb n 3;
       isFault = λ n. eqb n 5;
       isRunning = λ n. eqb n 3 || eqb n 4 || eqb n 6 || eqb n 7 || eqb n 8 || eqb n 9;
-      low = low;
-      high = high;
+      low = lowOf;
+      high = highOf;
       clear = λ t. eqb (t .clear) 1;
       cause = causeOf;
       deadAfter = λ s. deadAfter;
       deadCause = deadCauseOf;
       -- "in mode 1, from its 10,000th tick on, with fewer than RetryLimit retries used"
-      timed = mode1;
+      timed = isMode1;
       wait = 10000;
-      limit = RetryLimit;
+      limit = setting 24;
     }
 
 -- Demand 3 of this drive: "Take any sequence of calls from power-up."

@@ -1,15 +1,15 @@
 -- Demand 3 holds of every supervisor that obeys the laws, because what is inside never claims more than the history bears out.
 use native.Mathlib.Omega.{arith}
 use mathlib.Core.Path.{_≡_, refl, ap, sym, subst, _∙_}
-use mathlib.Core.Bool.{not, _&&_, _||_}
+use mathlib.Core.Bool.{Bool, true, false, not, _&&_, _||_}
 use mathlib.Core.List.{List, [], _∷_}
 use lib.Dec.{T, le→leb}
 use mir.Facts.{and-yes}
 use Rattle.history.specs.Log.{Machine, stateAfter, entry, log}
 use Rattle.history.specs.Onlooker.{Words, Memory, memoryOf, note, notes}
-use Rattle.history.specs.History.{Seen, retried, noLoadNorStart, noneOfThese, lowSince, retrySince, everLoaded, permitted, disturbed, undisturbed, startTaken, beforeStart, gatesRule, counted, retries, retryRule, holds, Demand3}
+use Rattle.history.specs.History.{Seen, retried, noLoadNorStart, noneOfThese, lowSince, retrySince, everLoaded, permitted, faulted, faultStanding, disturbed, startTaken, beforeStart, gatesRule, exitRule, counted, retries, retryRule, holds, Demand3}
 use Rattle.history.specs.Laws.{Inside, asleep, Step, Lawful}
-use Rattle.history.proofs.Bools.{or-cases, or-not, contrary, cond-cases, cases, joins}
+use Rattle.history.proofs.Bools.{or-cases, or-not, cond-cases, cases, joins}
 
 -- What is inside claims no more than the history bears out.
 record Borne (inside : Inside) (past : List Seen) : Type 0 where
@@ -17,7 +17,17 @@ record Borne (inside : Inside) (past : List Seen) : Type 0 where
   armed : T (inside .armed) → T (lowSince past || retrySince past)
   taken : T (inside .turning) → T (startTaken past)
   allowed : T (inside .turning) → T (permitted (beforeStart past))
+  faulted : inside .faulted ≡ faultStanding past
   used : inside .used ≡ retries past
+
+-- where a cause makes a fault, and a fault that is kept stays, the fault is told by these and by itself
+follows : (cause keeps was now : Bool) → (T cause → T now) → (T was → T keeps → T now) → now ≡ (cause || now || keeps && was)
+follows true keeps was true made stays = refl
+follows false keeps was true made stays = refl
+follows true keeps was false made stays = absurd (made tt)
+follows false true true false made stays = absurd (stays tt tt)
+follows false true false false made stays = refl
+follows false false was false made stays = refl
 
 -- ---- one call
 
@@ -46,11 +56,11 @@ module _ {before : Inside} {call : Seen} {after : Inside} {past : List Seen} (la
       (λ retry. search joins)
       (λ else. let (apart, by) = and-yes (noneOfThese call) (before .armed || call .low) else in armed-still apart by)
 
-  calm : T (after .turning) → T (undisturbed call)
-  calm now = and-yes (undisturbed call) (before .turning || call .started) (law .turning-by-start now) .0
+  calm : T (after .turning) → T (not (disturbed call))
+  calm now = and-yes (not (disturbed call)) (before .turning || call .started) (law .turning-by-start now) .0
 
   was-or-started : T (after .turning) → T (before .turning || call .started)
-  was-or-started now = and-yes (undisturbed call) (before .turning || call .started) (law .turning-by-start now) .1
+  was-or-started now = and-yes (not (disturbed call)) (before .turning || call .started) (law .turning-by-start now) .1
 
   -- the start was taken before this call, or in it
   taken-after : T (after .turning) → T (startTaken (call ∷ past))
@@ -78,6 +88,15 @@ module _ {before : Inside} {call : Seen} {after : Inside} {past : List Seen} (la
       (λ started. start-permitted started)
       (λ no-start. borne .allowed (or-not (before .turning) (call .started) (was-or-started now) no-start))
 
+  -- a live fault stands inside just where the history has one
+  faulted-after : after .faulted ≡ faultStanding (call ∷ past)
+  unfolding faultStanding
+  faulted-after =
+      follows (call .causeStood) (not (call .loaded || call .exited)) (before .faulted) (after .faulted) (law .cause-faults)
+      (λ was keeps. law .fault-stays was keeps)
+      ∙ ap (λ (shown : Bool). call .causeStood || shown || not (call .loaded || call .exited) && before .faulted) (sym (law .fault-shown))
+      ∙ ap (faulted call) (borne .faulted)
+
   borne-after : Borne after (call ∷ past)
   unfolding retries
   borne-after =
@@ -86,12 +105,9 @@ module _ {before : Inside} {call : Seen} {after : Inside} {past : List Seen} (la
         armed = armed-after;
         taken = taken-after;
         allowed = allowed-after;
+        faulted = faulted-after;
         used = law .count-follows ∙ ap (counted call) (borne .used);
       }
-
-  no-fault : T (after .turning) → T (not (call .faultStands))
-  no-fault now =
-      contrary (call .faultStands) (disturbed call) (λ fault. search joins) (calm now)
 
   -- the gates ask for turning, and turning for a start
   gates-hold : T (gatesRule (call ∷ past))
@@ -100,11 +116,24 @@ module _ {before : Inside} {call : Seen} {after : Inside} {past : List Seen} (la
       cases (call .turns)
       (λ turns.
       let now = law .gates-ask turns in
-      let free = no-fault now in
+      let free = subst (λ (fault : Bool). T (not fault)) faulted-after (law .fault-ends-turning now) in
       let taken = taken-after now in
       let allowed = allowed-after now in
       search joins)
       (λ rests. search joins)
+
+  exits-hold : T (exitRule (call ∷ past))
+  unfolding exitRule
+  exits-hold =
+      cases (call .exited)
+      (λ exits.
+      let free : Bool = not (call .causeStood) in
+      let way : Bool = call .clear || call .due in
+      let (both, tripped) = and-yes (free && way) (before .faulted) (law .exit-asks exits) in
+      let (no-cause, by) = and-yes free way both in
+      let trip = subst T (borne .faulted) tripped in
+      search joins)
+      (λ stays. search joins)
 
   -- the count inside is that of the history
   retries-hold : T (retryRule (call ∷ past))
@@ -115,9 +144,9 @@ module _ {before : Inside} {call : Seen} {after : Inside} {past : List Seen} (la
 
 -- power-up claims nothing
 borne-at-power-up : Borne asleep []
-unfolding retries
+unfolding faultStanding retries
 borne-at-power-up =
-    record { loaded = λ now. absurd now; armed = λ now. absurd now; taken = λ now. absurd now; allowed = λ now. absurd now; used = refl }
+    record { loaded = λ now. absurd now; armed = λ now. absurd now; taken = λ now. absurd now; allowed = λ now. absurd now; faulted = refl; used = refl }
 
 module _ (supervisor : Machine) (words : Words (supervisor .Call) (supervisor .Answer)) (lawful : Lawful supervisor words) where
   abbrev insideAfter : List (supervisor .Call) → Inside
@@ -153,7 +182,7 @@ module _ (supervisor : Machine) (words : Words (supervisor .Call) (supervisor .A
   demand3 [] = tt
   demand3 (call ∷ earlier) =
       let gates = gates-hold (law call earlier) (borne earlier) in
-      let exits = law call earlier .exit-asks in
+      let exits = exits-hold (law call earlier) (borne earlier) in
       let retries = retries-hold (law call earlier) (borne earlier) in
       let before = demand3 earlier in
       search joins

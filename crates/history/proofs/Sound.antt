@@ -23,7 +23,7 @@ wasLoaded fault = true
 
 abbrev inside : Toy → Inside
 inside (toy spot armed flag timed used limit waited) =
-    record { loaded = wasLoaded spot; armed = armed; turning = turns sound (toy spot armed flag timed used limit waited); used = used }
+    record { loaded = wasLoaded spot; armed = armed; faulted = flag; turning = turns sound (toy spot armed flag timed used limit waited); used = used }
 
 -- what is known of a state outside IDLE, and of what the onlooker remembers of it
 record Known (flag timed : Bool) (used limit : ℕ) (memory : Memory) : Type 0 where
@@ -32,11 +32,11 @@ record Known (flag timed : Bool) (used limit : ℕ) (memory : Memory) : Type 0 w
   dead : T (ltb 1 (memory .dead)) → T flag
 
 abbrev Good : Toy → Memory → Type 0
-Good (toy idle armed flag timed used limit waited) memory = (memory .shown ≡ 0) × T (not armed) × (used ≡ 0)
+Good (toy idle armed flag timed used limit waited) memory = (memory .shown ≡ 0) × T (not armed) × (used ≡ 0) × (memory .dead ≡ 0)
 Good (toy stop armed flag timed used limit waited) memory = (memory .shown ≡ 1) × Known flag timed used limit memory
 Good (toy run armed flag timed used limit waited) memory = (memory .shown ≡ 2) × Known flag timed used limit memory
 Good (toy fault armed flag timed used limit waited) memory =
-    (memory .shown ≡ 3) × Known flag timed used limit memory × T (not armed) × (waited ≤ memory .waited)
+    (memory .shown ≡ 3) × Known flag timed used limit memory × T (not armed) × (waited ≤ memory .waited) × T flag
 
 -- a call obeys the laws and leaves a good state
 record Done (state : Toy) (memory : Memory) (call : Press) : Type 0 where
@@ -48,20 +48,20 @@ ruleset computed = (joins, absurd, zero-le)
 
 -- neither cause nor clear: a retry, where retries are timed, one is due and there is room for it
 waits :
-    (timed flag due room : Bool) (used limit waited : ℕ) (memory : Memory) (lever : Lever)
+    (timed due room : Bool) (used limit waited : ℕ) (memory : Memory) (lever : Lever)
     → memory .shown ≡ 3
     → memory .numbers ≡ numbers timed limit
     → used ≤ limit
     → suc waited ≤ suc (memory .waited)
     → leb 2 (suc waited) ≡ due
     → ltb used limit ≡ room
-    → Done (toy fault false flag timed used limit waited) memory (ticks (fields false false lever))
-waits false flag due room used limit waited memory lever at loaded within later is-due is-room = rw (at, loaded) (search computed)
-waits true flag false room used limit waited memory lever at loaded within later is-due is-room =
+    → Done (toy fault false true timed used limit waited) memory (ticks (fields false false lever))
+waits false due room used limit waited memory lever at loaded within later is-due is-room = rw (at, loaded) (search computed)
+waits true false room used limit waited memory lever at loaded within later is-due is-room =
     rw (at, loaded) (record { good = rw is-due (search computed); obeys = rw is-due (search computed) })
-waits true flag true false used limit waited memory lever at loaded within later is-due is-room =
+waits true true false used limit waited memory lever at loaded within later is-due is-room =
     rw (at, loaded) (record { good = rw (is-due, is-room) (search computed); obeys = rw (is-due, is-room) (search computed) })
-waits true flag true true used limit waited memory lever at loaded within later is-due is-room =
+waits true true true used limit waited memory lever at loaded within later is-due is-room =
     let free : used < limit = ltb-true used limit is-room in
     let noted : leb 2 (suc (memory .waited)) ≡ true = le-leb 2 (suc (memory .waited)) (omega (arith, leb-true 2 (suc waited) is-due)) in
     rw (at, loaded) (record { good = rw (is-due, is-room) (search computed); obeys = simp (is-due, is-room, noted) (search computed) })
@@ -71,12 +71,13 @@ module _ (timed : Bool) (used limit waited : ℕ) (memory : Memory) where
       (flag : Bool)
       → memory .shown ≡ 0
       → used ≡ 0
+      → memory .dead ≡ 0
       → (call : Press)
       → Done (toy idle false flag timed used limit waited) memory call
-  in-idle flag at none (loads retry most) = rw (at, none) (search computed)
-  in-idle flag at none (ticks f) = rw (at, none) (search computed)
-  in-idle flag at none glitch = rw (at, none) (search computed)
-  in-idle flag at none halt = rw (at, none) (search computed)
+  in-idle flag at none alive (loads retry most) = rw (at, none, alive) (search computed)
+  in-idle flag at none alive (ticks f) = rw (at, none, alive) (search computed)
+  in-idle flag at none alive glitch = rw (at, none, alive) (search computed)
+  in-idle flag at none alive halt = rw (at, none, alive) (search computed)
 
   in-stop :
       (armed flag : Bool)
@@ -115,39 +116,39 @@ module _ (timed : Bool) (used limit waited : ℕ) (memory : Memory) where
   in-run armed flag at known halt = let dead = known .dead in rw (at, known .loaded) (search computed)
 
   in-fault :
-      (flag : Bool)
-      → memory .shown ≡ 3
-      → Known flag timed used limit memory
+      memory .shown ≡ 3
+      → Known true timed used limit memory
       → waited ≤ memory .waited
       → (call : Press)
-      → Done (toy fault false flag timed used limit waited) memory call
-  in-fault flag at known late (loads retry most) = let dead = known .dead in rw (at, known .loaded) (search computed)
-  in-fault flag at known late (ticks (fields true clear lever)) =
+      → Done (toy fault false true timed used limit waited) memory call
+  in-fault at known late (loads retry most) = let dead = known .dead in rw (at, known .loaded) (search computed)
+  in-fault at known late (ticks (fields true clear lever)) =
       let later : suc waited ≤ suc (memory .waited) = omega arith in rw (at, known .loaded) (search computed)
-  in-fault flag at known late (ticks (fields false true lever)) = rw (at, known .loaded) (search computed)
-  in-fault flag at known late (ticks (fields false false lever)) =
-      waits timed flag (leb 2 (suc waited)) (ltb used limit) used limit waited memory lever at (known .loaded) (known .within) (omega arith)
+  in-fault at known late (ticks (fields false true lever)) = rw (at, known .loaded) (search computed)
+  in-fault at known late (ticks (fields false false lever)) =
+      waits timed (leb 2 (suc waited)) (ltb used limit) used limit waited memory lever at (known .loaded) (known .within) (omega arith)
       refl refl
-  in-fault flag at known late glitch = rw (at, known .loaded) (search computed)
-  in-fault flag at known late halt = let dead = known .dead in rw (at, known .loaded) (search computed)
+  in-fault at known late glitch = rw (at, known .loaded) (search computed)
+  in-fault at known late halt = let dead = known .dead in rw (at, known .loaded) (search computed)
 
 done : (state : Toy) (memory : Memory) → Good state memory → (call : Press) → Done state memory call
 done (toy idle true flag timed used limit waited) memory good call = absurd (good .1)
-done (toy idle false flag timed used limit waited) memory good call = in-idle timed used limit waited memory flag (good .0) (good .2) call
+done (toy idle false flag timed used limit waited) memory good call = in-idle timed used limit waited memory flag (good .0) (good .2) (good .3) call
 done (toy stop armed flag timed used limit waited) memory good call =
     in-stop timed used limit waited memory armed flag (good .0) (good .1) call
 done (toy run armed flag timed used limit waited) memory good call =
     in-run timed used limit waited memory armed flag (good .0) (good .1) call
 done (toy fault true flag timed used limit waited) memory good call = absurd (good .2)
-done (toy fault false flag timed used limit waited) memory good call =
-    in-fault timed used limit waited memory flag (good .0) (good .1) (good .3) call
+done (toy fault false false timed used limit waited) memory good call = absurd (good .4)
+done (toy fault false true timed used limit waited) memory good call =
+    in-fault timed used limit waited memory (good .0) (good .1) (good .3) call
 
 lawful : Lawful (machine sound) words
 lawful =
     record {
       inside = inside;
       Good = Good;
-      good-at-power-up = (refl, tt, refl);
+      good-at-power-up = (refl, tt, refl, refl);
       good-after = λ state memory good call. done state memory good call .good;
       asleep-at-power-up = refl;
       obeys = λ state memory good call. done state memory good call .obeys;

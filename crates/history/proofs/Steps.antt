@@ -6,7 +6,7 @@ use Prim.Native.Nat.{suc, _≤_}
 use lib.Dec.{T}
 use lib.Ieee.Bits.{is-true, is-false}
 use mir.Facts.{and-yes}
-use Rattle.history.specs.History.{Seen, undisturbed}
+use Rattle.history.specs.History.{Seen, disturbed}
 use Rattle.history.specs.Laws.{Inside, Step}
 use Rattle.history.proofs.Bools.{never, joins}
 
@@ -14,6 +14,10 @@ module _
     (before : Inside) (call : Seen) (after : Inside)
     (gates : T (call .turns) → T (after .turning))
     (within : after .used ≤ call .limit)
+    (shown : call .faultStands ≡ after .faulted)
+    (caused : T (call .causeStood) → T (after .faulted))
+    (kept : T (before .faulted) → T (not (call .loaded || call .exited)) → T (after .faulted))
+    (dark : T (after .turning) → T (not (after .faulted)))
   where
     -- neither load, start nor exit: only a low arms, and what turns has turned before
     pub passes-by :
@@ -23,7 +27,7 @@ module _
         → T (not (call .exited))
         → (T (after .loaded) → T (before .loaded))
         → (T (after .armed) → T (before .armed || call .low))
-        → (T (after .turning) → T (undisturbed call && before .turning))
+        → (T (after .turning) → T (not (disturbed call) && before .turning))
         → after .used ≡ before .used
         → Step before call after
     passes-by no-load no-start none-began no-exit loaded armed turning same =
@@ -31,9 +35,13 @@ module _
           loaded-by-load = λ now. let was = loaded now in search joins;
           armed-by-low-or-retry = λ now. let by = armed now in search joins;
           start-asks = never (call .started) no-start;
-          turning-by-start = λ now. let (calm, was) = and-yes (undisturbed call) (before .turning) (turning now) in search joins;
+          turning-by-start = λ now. let (calm, was) = and-yes (not (disturbed call)) (before .turning) (turning now) in search joins;
+          fault-shown = shown;
+          cause-faults = caused;
+          fault-stays = kept;
+          fault-ends-turning = dark;
           gates-ask = gates;
-          exit-asks = search joins;
+          exit-asks = never (call .exited) no-exit;
           count-follows = rw (is-false (call .loaded) no-load, is-false (call .exited) no-exit) same;
           count-within = within;
         }
@@ -53,8 +61,12 @@ module _
           armed-by-low-or-retry = never (after .armed) disarmed;
           start-asks = never (call .started) no-start;
           turning-by-start = never (after .turning) rests;
+          fault-shown = shown;
+          cause-faults = caused;
+          fault-stays = kept;
+          fault-ends-turning = dark;
           gates-ask = gates;
-          exit-asks = search joins;
+          exit-asks = never (call .exited) no-exit;
           count-follows = rw (is-true (call .loaded) load) none;
           count-within = within;
         }
@@ -67,7 +79,7 @@ module _
         → T (before .loaded)
         → T (before .armed)
         → T (not (after .armed))
-        → (T (after .turning) → T (undisturbed call))
+        → (T (after .turning) → T (not (disturbed call)))
         → after .used ≡ before .used
         → Step before call after
     starts no-load start no-exit loaded armed disarmed calm same =
@@ -76,8 +88,12 @@ module _
           armed-by-low-or-retry = never (after .armed) disarmed;
           start-asks = λ now. search joins;
           turning-by-start = λ now. let quiet = calm now in search joins;
+          fault-shown = shown;
+          cause-faults = caused;
+          fault-stays = kept;
+          fault-ends-turning = dark;
           gates-ask = gates;
-          exit-asks = search joins;
+          exit-asks = never (call .exited) no-exit;
           count-follows = rw (is-false (call .loaded) no-load, is-false (call .exited) no-exit) same;
           count-within = within;
         }
@@ -89,6 +105,7 @@ module _
         (none-began : T (not (call .began)))
         (exit : T (call .exited))
         (no-cause : T (not (call .causeStood)))
+        (tripped : T (before .faulted))
         (loaded : T (after .loaded) → T (before .loaded))
         (rests : T (not (after .turning)))
       where
@@ -99,8 +116,12 @@ module _
               armed-by-low-or-retry = never (after .armed) disarmed;
               start-asks = never (call .started) no-start;
               turning-by-start = never (after .turning) rests;
+              fault-shown = shown;
+              cause-faults = caused;
+              fault-stays = kept;
+              fault-ends-turning = dark;
               gates-ask = gates;
-              exit-asks = search joins;
+              exit-asks = λ now. search joins;
               count-follows = rw (is-false (call .loaded) no-load, is-true (call .exited) exit, is-true (call .clear) clear) none;
               count-within = within;
             }
@@ -112,8 +133,12 @@ module _
               armed-by-low-or-retry = λ now. search joins;
               start-asks = never (call .started) no-start;
               turning-by-start = never (after .turning) rests;
+              fault-shown = shown;
+              cause-faults = caused;
+              fault-stays = kept;
+              fault-ends-turning = dark;
               gates-ask = gates;
-              exit-asks = search joins;
+              exit-asks = λ now. search joins;
               count-follows =
                   rw (
                     is-false (call .loaded) no-load,

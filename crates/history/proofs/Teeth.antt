@@ -5,8 +5,8 @@ use mathlib.Core.Bool.{Bool, true, false, not, _&&_}
 use mathlib.Core.List.{List, [], _∷_, reverse}
 use Rattle.history.specs.Log.{stateAfter, log}
 use Rattle.history.specs.Onlooker.{memoryOf, notes}
-use Rattle.history.specs.History.{Seen, lowSince, retrySince, everLoaded, permitted, startTaken, beforeStart, gatesRule, retries, retryRule, holds}
-use Rattle.history.proofs.Toy.{down, middle, up, fields, Press, loads, ticks, glitch, halt, words, Habit, machine, sound, startsUnarmed, startsInTheMiddle, startsDry, loadKeepsArmed, startKeepsArmed, tripKeepsArmed, armsInFault, wakesInStop, leavesWithCause, leavesInASample, leavesByALoad, retriesAtOnce, retriesUntimed, retriesForEver, raisesItsLimit, storesMore, ignoresLow, ignoresCause, ignoresSamples, drivesWithFault, forgetsFault, drivesInStop, loadsInRun, saysStop, tripsInSilence, nods}
+use Rattle.history.specs.History.{Seen, lowSince, retrySince, everLoaded, permitted, faultStanding, startTaken, beforeStart, gatesRule, exitRule, retries, retryRule, holds}
+use Rattle.history.proofs.Toy.{down, middle, up, fields, Press, loads, ticks, glitch, halt, words, Habit, machine, sound, startsUnarmed, startsInTheMiddle, startsDry, loadKeepsArmed, startKeepsArmed, tripKeepsArmed, armsInFault, wakesInStop, tripsForNothing, leavesWithCause, leavesInASample, leavesByALoad, retriesAtOnce, retriesUntimed, retriesForEver, raisesItsLimit, storesMore, rests, stopsAtATrip, ignoresLow, ignoresCause, ignoresSamples, drivesWithFault, forgetsFault, drivesInStop, loadsInRun, saysStop, tripsInSilence, nods}
 
 -- ---- calls by name
 
@@ -108,6 +108,8 @@ rows =
     -- a retry is timed: not before its time, and not in a mode that has none
     (retriesAtOnce, once ∷ trip ∷ high ∷ []) ∷
     (retriesUntimed, loads false 1 ∷ trip ∷ high ∷ high ∷ []) ∷
+    -- .. and follows a trip: a live fault was there
+    (tripsForNothing, once ∷ high ∷ high ∷ high ∷ []) ∷
     -- no more retries than the load allowed
     (retriesForEver, once ∷ trip ∷ high ∷ high ∷ trip ∷ high ∷ high ∷ []) ∷
     (raisesItsLimit, once ∷ trip ∷ high ∷ high ∷ trip ∷ high ∷ high ∷ []) ∷
@@ -120,6 +122,9 @@ rows =
     (forgetsFault, plain ∷ low ∷ high ∷ glitch ∷ high ∷ []) ∷
     (loadsInRun, plain ∷ low ∷ high ∷ plain ∷ []) ∷
     (saysStop, plain ∷ low ∷ high ∷ halt ∷ []) ∷
+    -- gates that rest and turn again without a start; a trip that shows neither FAULT nor a flag, and a start after it
+    (rests, plain ∷ low ∷ high ∷ glitch ∷ halfway ∷ glitch ∷ []) ∷
+    (stopsAtATrip, plain ∷ low ∷ high ∷ trip ∷ low ∷ high ∷ []) ∷
     -- and so does any other state, though halfway a flag nor STOP was ever shown
     (tripsInSilence, plain ∷ low ∷ high ∷ trip ∷ high ∷ []) ∷
     (nods, plain ∷ low ∷ high ∷ halt ∷ halt ∷ []) ∷
@@ -128,9 +133,9 @@ rows =
     []
 
 pub each-habit-breaks-the-rule : all breaks rows ≡ true
-unfolding log notes stateAfter memoryOf holds gatesRule retryRule retries startTaken beforeStart permitted everLoaded lowSince retrySince
+unfolding log notes stateAfter memoryOf holds gatesRule exitRule faultStanding retryRule retries startTaken beforeStart permitted everLoaded lowSince retrySince
 each-habit-breaks-the-rule = refl
 
 pub the-sound-toy-keeps-it : all spares rows ≡ true
-unfolding log notes stateAfter memoryOf holds gatesRule retryRule retries startTaken beforeStart permitted everLoaded lowSince retrySince
+unfolding log notes stateAfter memoryOf holds gatesRule exitRule faultStanding retryRule retries startTaken beforeStart permitted everLoaded lowSince retrySince
 the-sound-toy-keeps-it = refl

@@ -111,9 +111,9 @@ pub data Habit : Type 0 where
   -- starts that nothing permits
   startsUnarmed startsInTheMiddle startsDry loadKeepsArmed startKeepsArmed tripKeepsArmed armsInFault wakesInStop : Habit
   -- exits from FAULT that must not be
-  leavesWithCause leavesInASample leavesByALoad retriesAtOnce retriesUntimed retriesForEver raisesItsLimit storesMore : Habit
+  tripsForNothing leavesWithCause leavesInASample leavesByALoad retriesAtOnce retriesUntimed retriesForEver raisesItsLimit storesMore : Habit
   -- turning when it must not
-  ignoresLow ignoresCause ignoresSamples drivesWithFault forgetsFault drivesInStop loadsInRun saysStop tripsInSilence nods : Habit
+  rests stopsAtATrip ignoresLow ignoresCause ignoresSamples drivesWithFault forgetsFault drivesInStop loadsInRun saysStop tripsInSilence nods : Habit
 
 abbrev number : Habit → ℕ
 number sound = 0
@@ -143,6 +143,9 @@ number saysStop = 23
 number tripsInSilence = 24
 number nods = 25
 number startsDry = 26
+number rests = 27
+number stopsAtATrip = 28
+number tripsForNothing = 29
 
 module _ (habit : Habit) where
   abbrev has : Habit → Bool
@@ -157,7 +160,7 @@ module _ (habit : Habit) where
   inStop armed timed up used limit =
       cond (armed || has startsUnarmed)
       (toy run (has startKeepsArmed && armed) false timed used limit 0)
-      (toy stop armed false timed used limit 0)
+      (cond (has tripsForNothing) (toy fault false false timed used limit 0) (toy stop armed false timed used limit 0))
 
   -- in RUN, with no live fault: a low stops, and arms
   abbrev inRun : (armed timed : Bool) → Lever → (used limit : ℕ) → Toy
@@ -173,7 +176,7 @@ module _ (habit : Habit) where
       cond
       ((timed || has retriesUntimed) && (leb 2 waited || has retriesAtOnce) && (ltb used limit || has retriesForEver))
       (toy stop true false timed (suc used) (cond (has raisesItsLimit) (suc limit) limit) 0)
-      (toy fault armed true timed used limit waited)
+      (toy fault armed (not (has tripsForNothing)) timed used limit waited)
 
   abbrev loaded : (armed timed : Bool) → ℕ → Toy
   loaded armed timed most = toy stop armed false timed 0 (cond (has storesMore) (3 + most) most) 0
@@ -192,7 +195,7 @@ module _ (habit : Habit) where
       (inStop armed timed lever used limit)
   next (toy run armed flag timed used limit waited) (ticks (fields cause clear lever)) =
       cond (flag && not (has forgetsFault) || cause && not (has ignoresCause))
-      (toy fault false (not (has tripsInSilence)) timed used limit 0)
+      (cond (has stopsAtATrip) (toy stop false false timed used limit 0) (toy fault false (not (has tripsInSilence)) timed used limit 0))
       (inRun armed timed lever used limit)
   next (toy fault armed flag timed used limit waited) (ticks (fields cause clear lever)) =
       cond (has tripsInSilence) (toy run false false timed used limit 0)
@@ -200,7 +203,8 @@ module _ (habit : Habit) where
       (inFault (armed || has armsInFault && isDown lever) timed clear used limit (suc waited)))
   next (toy idle armed flag timed used limit waited) glitch = toy idle armed flag timed used limit waited
   next (toy stop armed flag timed used limit waited) glitch = toy stop armed true timed used limit waited
-  next (toy run armed flag timed used limit waited) glitch = toy run armed (flag || not (has ignoresSamples)) timed used limit waited
+  next (toy run armed flag timed used limit waited) glitch =
+      cond (has rests) (toy run (not armed) flag timed used limit waited) (toy run armed (flag || not (has ignoresSamples)) timed used limit waited)
   next (toy fault armed flag timed used limit waited) glitch =
       cond (has leavesInASample) (toy stop true false timed used limit 0) (toy fault armed true timed used limit waited)
   next (toy idle armed flag timed used limit waited) halt =
@@ -223,7 +227,7 @@ module _ (habit : Habit) where
   abbrev pub turns : Toy → Bool
   turns (toy idle armed flag timed used limit waited) = false
   turns (toy stop armed flag timed used limit waited) = has drivesInStop && not flag
-  turns (toy run armed flag timed used limit waited) = not (has startsDry && armed) && (not flag || has drivesWithFault)
+  turns (toy run armed flag timed used limit waited) = not ((has startsDry || has rests) && armed) && (not flag || has drivesWithFault)
   turns (toy fault armed flag timed used limit waited) = false
 
   -- a load is accepted in IDLE and STOP, any other call outside IDLE

@@ -18,10 +18,11 @@
 --
 -- Where the words leave a choice the stricter reading is taken. "That start" is the last one, and its own call counts among those since
 -- it. It is a move from STOP at an accepted tick that held a high command; but whatever enters a starting or running state, at whatever
--- call, uses up the low and the retry before it, as "previous start". There must be a load. A tick that held a low is a stop, and so is any
--- state but a starting or running one, whatever the supervisor made of it. A live cause ends a start as a live fault does. A low in the
--- very tick that leaves FAULT is not after the exit. FAULT is left at an accepted tick only, by a clear or by a retry that is timed. The
--- loaded limit is the one that the load brought.
+-- call, uses up the low and the retry before it, as "previous start". There must be a load. A live fault stands from a live cause or a live
+-- word on until FAULT is left or a load accepted, whatever is shown in between. A tick that held a low is a stop; so is any state but a
+-- starting or running one, and so are gates that neither charge nor drive. A low in the very tick that leaves FAULT is not after the exit.
+-- FAULT is left at an accepted tick only, by a clear or by a retry that is timed, and only after a trip. The loaded limit is the one that
+-- the load brought.
 --
 -- What it leaves to the other demands: that a call is refused only where its row holds (demand 1), that FAULT is entered at all, that the
 -- causes which a supervisor counts over time are counted rightly (the live word shows them), and that starts happen (demand 2).
@@ -105,17 +106,24 @@ permitted past = everLoaded past && (lowSince past || retrySince past)
 
 -- ---- "After each one, if the gates charge or drive .."
 
--- what ends a start: any other state, a load, a tick that held a low, a live cause, a live fault
+-- a live fault after one call more: a live cause stood or the live word shows one, or one was there and neither a load nor an exit from
+-- FAULT ended it
+abbrev pub faulted : Seen → Bool → Bool
+faulted call before = call .causeStood || call .faultStands || not (call .loaded || call .exited) && before
+
+-- "live fault stands"
+unfoldable pub faultStanding : List Seen → Bool
+faultStanding [] = false
+faultStanding (call ∷ past) = faulted call (faultStanding past)
+
+-- what ends a start: a state or gates that do not run, a load, a tick that held a low
 abbrev pub disturbed : Seen → Bool
-disturbed call = not (call .running) || call .loaded || call .low || call .causeStood || call .faultStands
+disturbed call = not (call .running && call .turns) || call .loaded || call .low
 
--- "no live fault and no stop"
-abbrev pub undisturbed : Seen → Bool
-undisturbed call = not (disturbed call)
-
--- "a start was taken since the last accepted load, with no live fault and no stop since it": the call of the start included
+-- "a start was taken since the last accepted load, with no live fault and no stop since it": the call of the start included. That no live
+-- fault stood since it follows: none stands now, and since the start neither a load nor an exit could have ended one
 unfoldable pub startTaken : List Seen → Bool
-startTaken history = since undisturbed (λ call. call .started && undisturbed call) history
+startTaken history = since (λ call. not (disturbed call)) (λ call. call .started && not (disturbed call)) history
 
 -- "Before that start": all that came before the last start
 unfoldable pub beforeStart : List Seen → List Seen
@@ -126,13 +134,16 @@ beforeStart (call ∷ past) = cond (call .started) past (beforeStart past)
 unfoldable pub gatesRule : List Seen → Bool
 gatesRule [] = true
 gatesRule (call ∷ past) =
-    whenever (call .turns) (not (call .faultStands) && startTaken (call ∷ past) && permitted (beforeStart (call ∷ past)))
+    whenever (call .turns)
+    (not (faultStanding (call ∷ past)) && startTaken (call ∷ past) && permitted (beforeStart (call ∷ past)))
 
 -- ---- "At every exit from FAULT no live cause stood."
 
--- and it was a clear or a timed retry, so an accepted tick
-abbrev pub exitRule : Seen → Bool
-exitRule call = whenever (call .exited) (not (call .causeStood) && (call .clear || call .due))
+-- and it was a clear or a timed retry, so an accepted tick; and there was a trip: a live fault stood before it
+unfoldable pub exitRule : List Seen → Bool
+exitRule [] = true
+exitRule (call ∷ past) =
+    whenever (call .exited) (not (call .causeStood) && (call .clear || call .due) && faultStanding past)
 
 -- ---- "The timed retries .. never exceed the loaded limit."
 
@@ -154,7 +165,7 @@ retryRule (call ∷ past) = leb (retries (call ∷ past)) (call .limit)
 -- "After each one": its three rules after this call, and after each one before it
 unfoldable pub holds : List Seen → Bool
 holds [] = true
-holds (call ∷ past) = gatesRule (call ∷ past) && exitRule call && retryRule (call ∷ past) && holds past
+holds (call ∷ past) = gatesRule (call ∷ past) && exitRule (call ∷ past) && retryRule (call ∷ past) && holds past
 
 abbrev pub Demand3 : List Seen → Type 0
 Demand3 history = T (holds history)

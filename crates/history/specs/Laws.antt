@@ -4,11 +4,11 @@
 -- of this: the laws are a way to prove the demand of a supervisor, and no part of what the demand says.
 use Prim.Native.Nat.{ℕ, _≤_}
 use mathlib.Core.Path.{_≡_}
-use mathlib.Core.Bool.{Bool, false, _&&_, _||_}
+use mathlib.Core.Bool.{Bool, false, not, _&&_, _||_}
 use lib.Dec.{T}
 use Rattle.history.specs.Log.{Machine, entry}
 use Rattle.history.specs.Onlooker.{Words, Memory, nothingYet, remember, note}
-use Rattle.history.specs.History.{Seen, retried, noLoadNorStart, noneOfThese, undisturbed, exitRule, counted}
+use Rattle.history.specs.History.{Seen, retried, noLoadNorStart, noneOfThese, disturbed, counted}
 
 -- What a supervisor holds inside.
 pub record Inside : Type 0 where
@@ -16,6 +16,8 @@ pub record Inside : Type 0 where
   pub loaded : Bool
   -- a start may be taken
   pub armed : Bool
+  -- a live fault stands
+  pub faulted : Bool
   -- the gates may charge or drive
   pub turning : Bool
   -- the retries used
@@ -23,7 +25,7 @@ pub record Inside : Type 0 where
 
 -- At power-up there is nothing inside.
 abbrev pub asleep : Inside
-asleep = record { loaded = false; armed = false; turning = false; used = 0 }
+asleep = record { loaded = false; armed = false; faulted = false; turning = false; used = 0 }
 
 -- One call: what was inside before it, what was noted of it, and what is inside after it.
 pub record Step (before : Inside) (call : Seen) (after : Inside) : Type 0 where
@@ -31,10 +33,16 @@ pub record Step (before : Inside) (call : Seen) (after : Inside) : Type 0 where
   -- a timed retry arms, and so does a low; load, start and any other exit leave nothing armed
   pub armed-by-low-or-retry : T (after .armed) → T (retried call && noLoadNorStart call || noneOfThese call && (before .armed || call .low))
   pub start-asks : T (call .started) → T (before .loaded && before .armed)
+  -- the live word shows the live fault; a live cause makes one, and only a load or an exit from FAULT ends it
+  pub fault-shown : call .faultStands ≡ after .faulted
+  pub cause-faults : T (call .causeStood) → T (after .faulted)
+  pub fault-stays : T (before .faulted) → T (not (call .loaded || call .exited)) → T (after .faulted)
   -- only a start lets the gates charge or drive; a disturbance takes this away, and only a start gives it back
-  pub turning-by-start : T (after .turning) → T (undisturbed call && (before .turning || call .started))
+  pub turning-by-start : T (after .turning) → T (not (disturbed call) && (before .turning || call .started))
+  pub fault-ends-turning : T (after .turning) → T (not (after .faulted))
   pub gates-ask : T (call .turns) → T (after .turning)
-  pub exit-asks : T (exitRule call)
+  -- what an exit from FAULT asks
+  pub exit-asks : T (call .exited) → T (not (call .causeStood) && (call .clear || call .due) && before .faulted)
   -- the retries used are those of the history, and never more than the limit
   pub count-follows : after .used ≡ counted call (before .used)
   pub count-within : after .used ≤ call .limit

@@ -109,7 +109,7 @@ module _ {Call Answer : Type 0} (words : Words Call Answer) where
         exited = words .isFault (before .shown) && not (words .isFault (now .shown));
         clear = isTickWith (words .clear) about;
         due = isTick about && words .timed (now .numbers) && leb (words .wait) (now .waited);
-        causeStood = words .deadCause (now .numbers) (now .dead) || isTickWith (words .cause (now .numbers)) about;
+        causeStood = isTickWith (words .cause (now .numbers)) about || words .deadCause (now .numbers) (now .dead);
         limit = words .limit (now .numbers);
         faultStands = words .faultStands answer;
         running = words .isRunning (now .shown);
