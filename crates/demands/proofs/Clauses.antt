@@ -6,7 +6,8 @@ use lib.Dec.{T, leb→le}
 use mir.Facts.{and-yes}
 use Rattle.history.specs.Log.{stateAfter, entry, log}
 use Rattle.history.specs.Onlooker.{memoryOf, note, notes}
-use Rattle.history.specs.History.{Seen, holds, gatesRule, exitRule, retryRule, faultStanding, startTaken, permitted, beforeStart, lowSince, retrySince, everLoaded, retries, whenever}
+use Rattle.history.specs.History.{Seen, since, holds, gatesRule, exitRule, retryRule, faultStanding, startTaken, permitted, beforeStart, lowSince, retrySince, everLoaded, retries, whenever}
+use Rattle.history.proofs.Since.{quiet, no-fault-since}
 use Rattle.drive.specs.AnyCall.{Call}
 use Rattle.reached.specs.Calls.{machine}
 use Rattle.demands.specs.Supervised.{words}
@@ -53,6 +54,10 @@ module _ (call : Call) (earlier : List Call) where
     -- "a start was taken since the last accepted load, with no live fault and no stop since it"
     pub start-taken : T (startTaken (now ∷ past))
     start-taken = turning .1
+
+    pub quiet-since-the-start : T (since quiet (λ seen. seen .started && quiet seen) (now ∷ past))
+    unfolding log notes
+    quiet-since-the-start = no-fault-since (now ∷ past) (drive-demand3 (call ∷ earlier)) start-taken
 
     -- "Before that start .. an accepted tick held a low command; failing that, the last exit from FAULT was a timed retry"
     pub low-or-retry : T (lowSince (beforeStart (now ∷ past)) || retrySince (beforeStart (now ∷ past)))

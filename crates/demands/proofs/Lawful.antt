@@ -7,9 +7,7 @@ use lib.Dec.{T, eqb, not-T}
 use lib.Ieee.Bits.{is-false}
 use mir.Facts.{and-yes, eqb-yes, ltb-no}
 use Rattle.numbers.proofs.Choices.{by-test, decide}
-use Rattle.history.specs.Log.{log}
-use Rattle.history.specs.Onlooker.{Memory, Asked, neither, heard, remember, noted, note, notes}
-use Rattle.history.specs.History.{Demand3}
+use Rattle.history.specs.Onlooker.{Memory, Asked, neither, heard, remember, noted, note}
 use Rattle.history.specs.Laws.{Step, Lawful}
 use Rattle.history.proofs.Bools.{or-left, contrary, joins}
 use Rattle.history.proofs.Steps
@@ -33,7 +31,6 @@ use Rattle.states.specs.declared.State.the-variants.{Stop}
 use Rattle.hall.specs.declared.Hall.{Hall}
 use Rattle.drive.specs.declared.flags.Flags.{Flags}
 use Rattle.drive.specs.declared.offsets.Offsets.{Offsets}
-use Rattle.reached.proofs.States.{turns as turning-is}
 use Rattle.reached.specs.Calls.{machine}
 use Rattle.reached.specs.Reached.{Reached}
 use Rattle.reached.proofs.Verdicts.{passed, accepted-state}

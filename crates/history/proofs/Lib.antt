@@ -2,6 +2,7 @@
 pub mod Bools
 pub mod Demand3
 pub mod Steps
+pub mod Since
 -- Examples, which nothing cites.
 pub mod Toy
 pub mod Teeth

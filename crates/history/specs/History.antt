@@ -121,7 +121,7 @@ abbrev pub disturbed : Seen → Bool
 disturbed call = not (call .running && call .turns) || call .loaded || call .low
 
 -- "a start was taken since the last accepted load, with no live fault and no stop since it": the call of the start included. That no live
--- fault stood since it follows: none stands now, and since the start neither a load nor an exit could have ended one
+-- fault stood since it follows, for the gates were on and the rule held after each of these calls (proofs/Since.antt `no-fault-since`)
 unfoldable pub startTaken : List Seen → Bool
 startTaken history = since (λ call. not (disturbed call)) (λ call. call .started && not (disturbed call)) history
 
