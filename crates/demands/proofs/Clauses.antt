@@ -67,16 +67,16 @@ module _ (call : Call) (earlier : List Call) where
 
   -- "At every exit from FAULT no live cause stood"; it was a clear or a timed retry, and a live fault stood before it
   module _ (exited : T (now .exited)) where
-    exits : T (not (now .causeStood)) × T (now .clear || now .due) × T (faultStanding past)
+    exits : T (not (now .causeStood || now .liveShown)) × T (now .clear || now .due) × T (faultStanding past)
     unfolding exitRule
     exits =
-        let free : Bool = not (now .causeStood) in
+        let free : Bool = not (now .causeStood || now .liveShown) in
         let way : Bool = now .clear || now .due in
         let (two, third) = and-yes (free && way) (faultStanding past) (so (now .exited) (free && way && faultStanding past) (rules .1) exited) in
         let (first, second) = and-yes free way two in
         (first, second, third)
 
-    pub no-cause-at-exit : T (not (now .causeStood))
+    pub no-cause-at-exit : T (not (now .causeStood || now .liveShown))
     no-cause-at-exit = exits .0
 
     pub clear-or-timed-retry : T (now .clear || now .due)

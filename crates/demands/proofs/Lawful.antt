@@ -9,7 +9,7 @@ use mir.Facts.{and-yes, eqb-yes, ltb-no}
 use Rattle.numbers.proofs.Choices.{by-test, decide}
 use Rattle.history.specs.Onlooker.{Memory, Asked, neither, heard, remember, noted, note}
 use Rattle.history.specs.Laws.{Step, Lawful}
-use Rattle.history.proofs.Bools.{or-left, contrary, joins}
+use Rattle.history.proofs.Bools.{or-left, nor, contrary, joins}
 use Rattle.history.proofs.Steps
 use Rattle.history.proofs.Demand3.{demand3}
 use Rattle.states.specs.States.{numberOf, is, turning}
@@ -111,6 +111,16 @@ module _ (d : Drive) (r : Reached d) (memory : Memory) (knows : Remembers d memo
         let none : hall .dead ≡ 0 = ap (λ (e : Drive). e .hall .dead) (r-now .idle idle) in absurd (rw (knows-now .dead, none) at cause))
         (λ outside. dead-shows stood r-now (rw (knows-now .loaded outside, knows-now .dead) at cause))
 
+    -- what stays begins nothing
+    abbrev begins : Bool
+    begins = turning (d .state) && not (turning (d .state)) || is 3 (d .state) && not (is 3 (d .state))
+
+    same-place : T (not begins)
+    same-place =
+        nor (turning (d .state) && not (turning (d .state))) (is 3 (d .state) && not (is 3 (d .state)))
+        (never-both (turning (d .state)))
+        (never-both (is 3 (d .state)))
+
     stands :
         (number at : ℕ) (now : Memory)
         → Reached stood
@@ -128,7 +138,7 @@ module _ (d : Drive) (r : Reached d) (memory : Memory) (knows : Remembers d memo
         (dark number at stood)
         tt
         (fails-right (eqb (now .shown) 3 && eqb (memory .shown) 1) false tt)
-        (rw (knows .shown, knows-now .shown) (never-both (turning (d .state))))
+        (rw (knows .shown, knows-now .shown) same-place)
         (rw (knows .shown, knows-now .shown) (never-both (is 5 (d .state))))
         (λ is. is)
         (or-left (d .armed) false)
@@ -136,7 +146,8 @@ module _ (d : Drive) (r : Reached d) (memory : Memory) (knows : Remembers d memo
         let (runs, dim) = and-yes (turning (d .state)) (not (any (alive stood))) turns in
         let drives = shows-turning number at stood turns in
         let was = contrary (any (alive d)) (any (alive stood)) more dim in
-        rw (knows-now .shown) (search joins))
+        let begun = fails-left begins (not (is 3 (d .state) && is 1 (d .state) && false)) same-place in
+        rw (knows .shown, knows-now .shown) (search joins depth 9))
         refl
 
   module _ (call : Call) (number at : ℕ) (not-0 : eqb number 0 ≡ false) where

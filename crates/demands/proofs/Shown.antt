@@ -24,7 +24,7 @@ inside d =
     }
 
 module _ (number at : ℕ) (d : Drive) where
-  pub fault-shown : words .faultStands (answer number at d) ≡ inside d .faulted
+  pub fault-shown : words .liveShown (answer number at d) ≡ inside d .faulted
   unfolding answer
   fault-shown = word-shows (alive d)
 

@@ -74,7 +74,7 @@ waiting =
       due = false;
       causeStood = false;
       limit = 2;
-      faultStands = true;
+      liveShown = true;
       running = false;
       turns = false;
     }

@@ -8,9 +8,9 @@ use lib.Dec.{T, leb, le→leb}
 use lib.Ieee.Bits.{is-true}
 use mir.Facts.{and-yes, yes-and}
 use Rattle.history.specs.Onlooker.{Memory, note}
-use Rattle.history.specs.History.{Seen, disturbed}
+use Rattle.history.specs.History.{Seen, endsStart}
 use Rattle.history.specs.Laws.{Step}
-use Rattle.history.proofs.Bools.{contrary, never, joins}
+use Rattle.history.proofs.Bools.{nor, contrary, never, joins}
 use Rattle.history.proofs.Steps
 use Rattle.hall.specs.declared.Hall.{Hall}
 use Rattle.states.specs.States.{numberOf, is, turning}
@@ -79,14 +79,28 @@ module _ (settings : List ℕ) (hall : Hall) (flags : Flags) (cycles count : ℕ
   abbrev found : Bool
   found = causeOf settings t || deadCauseOf settings (hall .dead)
 
+  -- what begins from one state to another, by their numbers: nothing where it stays, and nothing on the way from one running state on
+  abbrev begins : State → State → Bool
+  begins state onto = turning onto && not (turning state) || is 3 onto && not (is 3 state)
+
+  same : (state : State) → T (not (begins state state))
+  same state = nor (turning state && not (turning state)) (is 3 state && not (is 3 state)) (never-both (turning state)) (never-both (is 3 state))
+
+  onwards : (state onto : State) → T (turning state) → T (not (is 3 onto)) → T (not (begins state onto))
+  onwards state onto runs on =
+      nor (turning onto && not (turning state)) (is 3 onto && not (is 3 state))
+      (fails-right (turning onto) (not (turning state)) (rw (is-true (turning state) runs) tt))
+      (fails-left (is 3 onto) (not (is 3 state)) on)
+
   -- a tick by which the drive turns, with no low, disturbs nothing
-  undisturbed-by :
+  goes-on-by :
       (state : State) (after : Drive)
       → T (not (low settings t))
+      → T (not (noteOf state after .began && not (noteOf state after .started)))
       → T (inside after .turning)
-      → T (not (disturbed (noteOf state after)))
+      → T (not (endsStart (noteOf state after)))
   unfolding answer
-  undisturbed-by state after no-low turns =
+  goes-on-by state after no-low no-new turns =
       let runs = shows-running 0 0 after turns in
       let drives = shows-turning 0 0 after turns in
       search joins
@@ -116,7 +130,7 @@ module _ (settings : List ℕ) (hall : Hall) (flags : Flags) (cycles count : ℕ
         → T (not (noteOf state after .exited))
         → T (not (is 0 state))
         → (T (after .armed) → T (armed || low settings t))
-        → (T (inside after .turning) → T (not (disturbed (noteOf state after)) && inside (at state) .turning))
+        → (T (inside after .turning) → T (not (endsStart (noteOf state after)) && inside (at state) .turning))
         → Obeys state after
     unfolding answer
     passes state after same raises no-start none-began no-exit loaded arms turning =
@@ -137,14 +151,15 @@ module _ (settings : List ℕ) (hall : Hall) (flags : Flags) (cycles count : ℕ
         → after .retries ≡ used
         → any (alive after) ≡ tripped state
         → T (not (noteOf state after .started))
+        → T (not (noteOf state after .began))
         → T (not (noteOf state after .exited))
         → T (not (is 0 state))
         → (T (after .armed) → T (armed || low settings t))
         → T (not (turning (after .state)))
         → Obeys state after
     unfolding answer
-    rests state after same raises no-start no-exit loaded arms still =
-        passes state after same raises no-start (fails-left (turning (after .state)) (not (turning state)) still) no-exit loaded arms
+    rests state after same raises no-start none-began no-exit loaded arms still =
+        passes state after same raises no-start none-began no-exit loaded arms
         (λ now. never (turning (after .state)) still (and-yes (turning (after .state)) (not (any (alive after))) now .0))
 
     by-move :
@@ -161,25 +176,25 @@ module _ (settings : List ℕ) (hall : Hall) (flags : Flags) (cycles count : ℕ
         let after = next state Stay in
         passes state after refl refl
         (one-state (numberOf state) (high settings t))
-        (never-both (turning state))
+        (same state)
         (never-both (is 5 state))
         loaded
         (arming armed (low settings t) (not (is 5 state)))
         (λ now.
         let (runs, dim) = and-yes (turning state) (not (tripped state)) now in
-        yes-and (not (disturbed (noteOf state after))) (inside (at state) .turning)
-        (undisturbed-by state after (quiet runs) now)
+        yes-and (not (endsStart (noteOf state after))) (inside (at state) .turning)
+        (goes-on-by state after (quiet runs) (fails-left (begins state state) (not (noteOf state after .started)) (same state)) now)
         (turned-before state runs dim))
     by-move state (Enter Fault) loaded fault late trip apart (trips free tripping) =
-        rests state (next state (Enter Fault)) refl refl tt (fails-right (is 5 state) false tt) loaded
+        rests state (next state (Enter Fault)) refl refl tt tt (fails-right (is 5 state) false tt) loaded
         (λ now. arming armed (low settings t) (not (is 5 state)) (and-yes (arms (at state) t) false now .0))
         tt
     by-move state (Enter Stop) loaded fault late trip apart (stops runs is-low calm) =
-        rests state (next state (Enter Stop)) refl refl tt (fails-left (is 5 state) true (turning-is state runs .not-fault)) loaded
+        rests state (next state (Enter Stop)) refl refl tt tt (fails-left (is 5 state) true (turning-is state runs .not-fault)) loaded
         (λ now. arming armed (low settings t) (not (is 5 state)) (and-yes (arms (at state) t) true now .0))
         tt
     by-move Stop (Enter OffsetCal) loaded fault late trip apart (calibrates unmeasured calm) =
-        rests Stop (next Stop (Enter OffsetCal)) refl refl tt tt tt
+        rests Stop (next Stop (Enter OffsetCal)) refl refl tt tt tt tt
         (λ now. arming armed (low settings t) true (and-yes (arms (at Stop) t) true now .0))
         tt
     by-move Stop (Enter BtsCharge) loaded fault late trip apart (starts measured is-armed is-high calm) =
@@ -188,28 +203,29 @@ module _ (settings : List ℕ) (hall : Hall) (flags : Flags) (cycles count : ℕ
         (fault-shown 0 0 after) (found-trips (at Stop) t) (λ was keeps. kept Stop was) (dark 0 0 after)
         tt is-high tt tt is-armed
         (fails-right (arms (at Stop) t) false tt)
-        (undisturbed-by Stop after (apart is-high))
+        (goes-on-by Stop after (apart is-high) (rw (is-true (high settings t) is-high) tt))
         refl
     by-move state (Enter onto) loaded fault late trip apart (goes-on runs onward no-low calm) =
         let after = next state (Enter onto) in
+        let not-first = and-yes (turning onto) (not (is 3 onto)) onward .1 in
+        let none-begun = onwards state onto runs not-first in
         passes state after refl refl
-        (fails-left (is 3 onto && is 1 state) (high settings t)
-        (fails-left (is 3 onto) (is 1 state) (and-yes (turning onto) (not (is 3 onto)) onward .1)))
-        (fails-right (turning onto) (not (turning state)) (rw (is-true (turning state) runs) tt))
+        (fails-left (is 3 onto && is 1 state) (high settings t) (fails-left (is 3 onto) (is 1 state) not-first))
+        none-begun
         (fails-left (is 5 state) (not (is 5 onto)) (turning-is state runs .not-fault))
         loaded
         (λ now. arming armed (low settings t) (not (is 5 state)) (and-yes (arms (at state) t) (not (is 3 onto || is 5 onto)) now .0))
         (λ now.
-        yes-and (not (disturbed (noteOf state after))) (inside (at state) .turning)
-        (undisturbed-by state after no-low now)
+        yes-and (not (endsStart (noteOf state after))) (inside (at state) .turning)
+        (goes-on-by state after no-low (fails-left (begins state onto) (not (noteOf state after .started)) none-begun) now)
         (turned-before state runs calm))
     by-move OffsetCal Measure loaded fault late trip apart (measures done calm) =
-        rests OffsetCal (next OffsetCal Measure) refl refl tt tt tt (arming armed (low settings t) true) tt
+        rests OffsetCal (next OffsetCal Measure) refl refl tt tt tt tt (arming armed (low settings t) true) tt
     by-move Fault Clear loaded fault late trip apart (clears free clear) =
         let after = next Fault Clear in
         Steps.clears (inside (at Fault)) (noteOf Fault after) (inside after) (gates-ask 0 0 after) zero-le
         (fault-shown 0 0 after) (never found (no-cause free)) (λ was keeps. absurd keeps) (dark 0 0 after)
-        tt tt tt tt (no-cause free) (trip tt) (λ now. tt) tt clear
+        tt tt tt tt (no-cause free) (trip tt) tt (λ now. tt) tt clear
         (unarmed armed (low settings t) fault)
         refl
     by-move Fault Retry loaded fault late trip apart (tries-again free no-clear mode nth room) =
@@ -217,7 +233,7 @@ module _ (settings : List ℕ) (hall : Hall) (flags : Flags) (cycles count : ℕ
         let before = late tt in
         Steps.retries (inside (at Fault)) (noteOf Fault after) (inside after) (gates-ask 0 0 after) (omega arith)
         (fault-shown 0 0 after) (never found (no-cause free)) (λ was keeps. absurd keeps) (dark 0 0 after)
-        tt tt tt tt (no-cause free) (trip tt) (λ now. tt) tt no-clear
+        tt tt tt tt (no-cause free) (trip tt) tt (λ now. tt) tt no-clear
         (yes-and (mode1 settings) (leb 10000 (suc waited)) mode (le→leb 10000 (suc waited) (omega arith)))
         (omega (arith, room))
 

@@ -1,7 +1,8 @@
 -- This drive as the onlooker of demand 3 knows it: the words of its calls and answers, and the demand of it. The numbers here are those of
--- a load, a sample or a tick, or shown by an answer: nothing is read off the drive's state, and no definition is the drive's own, so that a
--- drive which is wrong in definition and code alike does not agree with itself. Causes 0, 1, 2, 3, 6 and 15 are told by what comes in.
--- Causes 4, 7 and 14, which the drive counts over many ticks in MOTORRUN, only the live word tells: no exit from FAULT needs them.
+-- a load, a sample or a tick, or shown by an answer: nothing is read off the drive's state. The types of calls and answers are the
+-- drive's; every test on them is written anew here from document 01, so that a mistake made in the drive's definitions and code alike is
+-- not made here. Causes 0, 1, 2, 3, 6 and 15 are told by what comes in. Causes 4, 7 and 14 "count only ticks taken in MOTORRUN": none
+-- stands in FAULT, so no exit has to ask for them, and while the drive runs the live word tells them.
 use Prim.Native.Nat.{ℕ, _-_, _/_, _%_, _^_}
 use mathlib.Core.Bool.{Bool, not, _&&_, _||_}
 use mathlib.Core.List.{List}
@@ -39,7 +40,7 @@ isMode1 s = eqb (setting 1 s) 1
 
 -- "A flag is live if its FaultEnable bit is 1"
 abbrev pub enabled : ℕ → List ℕ → Bool
-enabled flag s = eqb (setting 2 s / 2 ^ flag % 2) 1
+enabled flag s = eqb ((setting 2 s / 2 ^ flag) % 2) 1
 
 -- "Mode 0: low is command 0, high is command 1. Mode 1: low is control at most CmdStop, high is control at least CmdStart."
 abbrev pub lowOf : List ℕ → Tick → Bool
@@ -70,7 +71,7 @@ words =
       -- "0 accepted"
       accepted = λ a. eqb (a .number) 0;
       state = λ a. a .state;
-      faultStands = λ a. not (eqb (a .live) 0);
+      liveShown = λ a. not (eqb (a .live) 0);
       -- "off (0)", "charge (1)", "drive (2)", "all low sides on (3)": what is neither off nor the brake turns
       turns = λ a. not (eqb (a .gate) 0 || eqb (a .gate) 3);
       -- "1 STOP"; "3 BTSCHARGE", where the start leads; "5 FAULT"; "the six starting and running states (3, 4, 6, 7, 8, 9)"
@@ -90,6 +91,7 @@ words =
       limit = setting 24;
     }
 
--- Demand 3 of this drive: "Take any sequence of calls from power-up."
+-- Demand 3 of this drive: "Take any sequence of calls from power-up." The machine is made of the calls as the definitions give them; that
+-- the functions give exactly these replies is what they promise (`ensures r ≡ ..` of `Drive::power_up`, `load`, `cycle` and `tick`).
 abbrev pub DriveDemand3 : Type 0
 DriveDemand3 = (calls : List Call) → Demand3 (notes words (log machine calls))

@@ -7,7 +7,7 @@ use lib.Dec.{T, le→leb}
 use mir.Facts.{and-yes}
 use Rattle.history.specs.Log.{Machine, stateAfter, entry, log}
 use Rattle.history.specs.Onlooker.{Words, Memory, memoryOf, note, notes}
-use Rattle.history.specs.History.{Seen, retried, noLoadNorStart, noneOfThese, lowSince, retrySince, everLoaded, permitted, faulted, faultStanding, disturbed, startTaken, beforeStart, gatesRule, exitRule, counted, retries, retryRule, holds, Demand3}
+use Rattle.history.specs.History.{Seen, retried, noLoadNorStart, noneOfThese, lowSince, retrySince, everLoaded, permitted, faulted, faultStanding, endsStart, startTaken, beforeStart, gatesRule, exitRule, counted, retries, retryRule, holds, Demand3}
 use Rattle.history.specs.Laws.{Inside, asleep, Step, Lawful}
 use Rattle.history.proofs.Bools.{or-cases, or-not, cond-cases, cases, joins}
 
@@ -56,11 +56,11 @@ module _ {before : Inside} {call : Seen} {after : Inside} {past : List Seen} (la
       (λ retry. search joins)
       (λ else. let (apart, by) = and-yes (noneOfThese call) (before .armed || call .low) else in armed-still apart by)
 
-  calm : T (after .turning) → T (not (disturbed call))
-  calm now = and-yes (not (disturbed call)) (before .turning || call .started) (law .turning-by-start now) .0
+  calm : T (after .turning) → T (not (endsStart call))
+  calm now = and-yes (not (endsStart call)) (before .turning || call .started) (law .turning-by-start now) .0
 
   was-or-started : T (after .turning) → T (before .turning || call .started)
-  was-or-started now = and-yes (not (disturbed call)) (before .turning || call .started) (law .turning-by-start now) .1
+  was-or-started now = and-yes (not (endsStart call)) (before .turning || call .started) (law .turning-by-start now) .1
 
   -- the start was taken before this call, or in it
   taken-after : T (after .turning) → T (startTaken (call ∷ past))
@@ -127,7 +127,7 @@ module _ {before : Inside} {call : Seen} {after : Inside} {past : List Seen} (la
   exits-hold =
       cases (call .exited)
       (λ exits.
-      let free : Bool = not (call .causeStood) in
+      let free : Bool = not (call .causeStood || call .liveShown) in
       let way : Bool = call .clear || call .due in
       let (both, tripped) = and-yes (free && way) (before .faulted) (law .exit-asks exits) in
       let (no-cause, by) = and-yes free way both in

@@ -6,4 +6,3 @@ pub mod Since
 -- Examples, which nothing cites.
 pub mod Toy
 pub mod Teeth
-pub mod Sound

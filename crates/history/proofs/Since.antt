@@ -1,22 +1,26 @@
--- "with no live fault .. since it": the rule has no clause of its own for this, because it follows. A start is undisturbed only while the gates
+-- "with no live fault .. since it": the rule has no clause of its own for this, because it follows. A start lasts only while the gates
 -- charge or drive, and after each such call the rule itself says that no live fault stands.
-use mathlib.Core.Bool.{Bool, not, _&&_, _||_}
+use mathlib.Core.Bool.{Bool, true, false, not, _&&_, _||_}
 use mathlib.Core.List.{List, [], _∷_}
 use lib.Dec.{T, T-not}
-use mir.Facts.{and-yes, yes-and, or-no, T-not-not}
-use Rattle.history.specs.History.{Seen, since, faultStanding, disturbed, startTaken, permitted, beforeStart, gatesRule, exitRule, retryRule, holds}
-use Rattle.history.proofs.Bools.{or-cases, joins}
+use mir.Facts.{and-yes, yes-and, or-no}
+use Rattle.history.specs.History.{Seen, since, faultStanding, endsStart, startTaken, permitted, beforeStart, gatesRule, exitRule, retryRule, holds}
+use Rattle.history.proofs.Bools.{or-cases, cases, joins}
+
+-- gates that are off end a start
+fails-right : (a b : Bool) → T (not b) → T (not (a && b))
+fails-right true b t = t
+fails-right false b t = tt
 
 -- neither a stop nor a live fault, by what came in or by what was shown
 abbrev pub quiet : Seen → Bool
-quiet call = not (disturbed call) && not (call .causeStood || call .faultStands)
+quiet call = not (endsStart call) && not (call .causeStood || call .liveShown)
 
-module _ (call : Seen) (past : List Seen) (ruled : T (gatesRule (call ∷ past))) (calm : T (not (disturbed call))) where
+module _ (call : Seen) (past : List Seen) (ruled : T (gatesRule (call ∷ past))) (calm : T (not (endsStart call))) where
   turns : T (call .turns)
   turns =
-      let still : Bool = call .running && call .turns in
-      let (runs, rest) = or-no (not still || call .loaded) (call .low) calm in
-      and-yes (call .running) (call .turns) (T-not-not still (or-no (not still) (call .loaded) runs .0)) .1
+      cases (call .turns) (λ on. on)
+      (λ off. absurd (T-not (endsStart call) calm (let still = fails-right (call .running) (call .turns) off in search joins)))
 
   stands-none : T (not (faultStanding (call ∷ past)))
   unfolding gatesRule
@@ -31,8 +35,8 @@ module _ (call : Seen) (past : List Seen) (ruled : T (gatesRule (call ∷ past))
   quiet-now : T (quiet call)
   unfolding faultStanding
   quiet-now =
-      let none = or-no (call .causeStood || call .faultStands) (not (call .loaded || call .exited) && faultStanding past) stands-none .0 in
-      yes-and (not (disturbed call)) (not (call .causeStood || call .faultStands)) calm none
+      let none = or-no (call .causeStood || call .liveShown) (not (call .loaded || call .exited) && faultStanding past) stands-none .0 in
+      yes-and (not (endsStart call)) (not (call .causeStood || call .liveShown)) calm none
 
 pub no-fault-since :
     (history : List Seen)
@@ -42,7 +46,7 @@ pub no-fault-since :
 unfolding holds startTaken
 no-fault-since [] held taken = taken
 no-fault-since (call ∷ past) held taken =
-    let calm : Bool = not (disturbed call) in
+    let calm : Bool = not (endsStart call) in
     let rest : Bool = gatesRule (call ∷ past) && exitRule (call ∷ past) in
     let (three, before) = and-yes (rest && retryRule (call ∷ past)) (holds past) held in
     let ruled = and-yes (gatesRule (call ∷ past)) (exitRule (call ∷ past)) (and-yes rest (retryRule (call ∷ past)) three .0) .0 in

@@ -1,12 +1,12 @@
 -- The calls of a supervisor that is built as document 01 says, each kind with the laws that it obeys: a call that is none of the others, a
 -- load, a start, a clear that ends a trip, and a timed retry.
-use mathlib.Core.Path.{_≡_}
-use mathlib.Core.Bool.{not, _&&_, _||_}
+use mathlib.Core.Path.{_≡_, sym, subst}
+use mathlib.Core.Bool.{Bool, not, _&&_, _||_}
 use Prim.Native.Nat.{suc, _≤_}
 use lib.Dec.{T}
 use lib.Ieee.Bits.{is-true, is-false}
 use mir.Facts.{and-yes}
-use Rattle.history.specs.History.{Seen, disturbed}
+use Rattle.history.specs.History.{Seen, endsStart}
 use Rattle.history.specs.Laws.{Inside, Step}
 use Rattle.history.proofs.Bools.{never, joins}
 
@@ -14,7 +14,7 @@ module _
     (before : Inside) (call : Seen) (after : Inside)
     (gates : T (call .turns) → T (after .turning))
     (within : after .used ≤ call .limit)
-    (shown : call .faultStands ≡ after .faulted)
+    (shown : call .liveShown ≡ after .faulted)
     (caused : T (call .causeStood) → T (after .faulted))
     (kept : T (before .faulted) → T (not (call .loaded || call .exited)) → T (after .faulted))
     (dark : T (after .turning) → T (not (after .faulted)))
@@ -27,7 +27,7 @@ module _
         → T (not (call .exited))
         → (T (after .loaded) → T (before .loaded))
         → (T (after .armed) → T (before .armed || call .low))
-        → (T (after .turning) → T (not (disturbed call) && before .turning))
+        → (T (after .turning) → T (not (endsStart call) && before .turning))
         → after .used ≡ before .used
         → Step before call after
     passes-by no-load no-start none-began no-exit loaded armed turning same =
@@ -35,7 +35,7 @@ module _
           loaded-by-load = λ now. let was = loaded now in search joins;
           armed-by-low-or-retry = λ now. let by = armed now in search joins;
           start-asks = never (call .started) no-start;
-          turning-by-start = λ now. let (calm, was) = and-yes (not (disturbed call)) (before .turning) (turning now) in search joins;
+          turning-by-start = λ now. let (calm, was) = and-yes (not (endsStart call)) (before .turning) (turning now) in search joins;
           fault-shown = shown;
           cause-faults = caused;
           fault-stays = kept;
@@ -79,7 +79,7 @@ module _
         → T (before .loaded)
         → T (before .armed)
         → T (not (after .armed))
-        → (T (after .turning) → T (not (disturbed call)))
+        → (T (after .turning) → T (not (endsStart call)))
         → after .used ≡ before .used
         → Step before call after
     starts no-load start no-exit loaded armed disarmed calm same =
@@ -106,9 +106,13 @@ module _
         (exit : T (call .exited))
         (no-cause : T (not (call .causeStood)))
         (tripped : T (before .faulted))
+        (dark-after : T (not (after .faulted)))
         (loaded : T (after .loaded) → T (before .loaded))
         (rests : T (not (after .turning)))
       where
+        none-shown : T (not (call .liveShown))
+        none-shown = subst (λ (b : Bool). T (not b)) (sym shown) dark-after
+
         pub clears : T (call .clear) → T (not (after .armed)) → after .used ≡ 0 → Step before call after
         clears clear disarmed none =
             record {
@@ -121,7 +125,7 @@ module _
               fault-stays = kept;
               fault-ends-turning = dark;
               gates-ask = gates;
-              exit-asks = λ now. search joins;
+              exit-asks = λ now. let hidden = none-shown in search joins;
               count-follows = rw (is-false (call .loaded) no-load, is-true (call .exited) exit, is-true (call .clear) clear) none;
               count-within = within;
             }
@@ -138,7 +142,7 @@ module _
               fault-stays = kept;
               fault-ends-turning = dark;
               gates-ask = gates;
-              exit-asks = λ now. search joins;
+              exit-asks = λ now. let hidden = none-shown in search joins;
               count-follows =
                   rw (
                     is-false (call .loaded) no-load,

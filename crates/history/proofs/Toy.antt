@@ -86,7 +86,7 @@ words =
       asked = asked;
       accepted = λ a. a .accepted;
       state = λ a. a .state;
-      faultStands = λ a. a .flag;
+      liveShown = λ a. a .flag;
       turns = λ a. a .gates;
       isStop = λ n. eqb n 1;
       isStart = λ n. eqb n 2;
@@ -111,7 +111,7 @@ pub data Habit : Type 0 where
   -- starts that nothing permits
   startsUnarmed startsInTheMiddle startsDry loadKeepsArmed startKeepsArmed tripKeepsArmed armsInFault wakesInStop : Habit
   -- exits from FAULT that must not be
-  tripsForNothing leavesWithCause leavesInASample leavesByALoad retriesAtOnce retriesUntimed retriesForEver raisesItsLimit storesMore : Habit
+  tripsForNothing leavesAlight leavesWithCause leavesInASample leavesByALoad retriesAtOnce retriesUntimed retriesForEver raisesItsLimit storesMore : Habit
   -- turning when it must not
   rests stopsAtATrip ignoresLow ignoresCause ignoresSamples drivesWithFault forgetsFault drivesInStop loadsInRun saysStop tripsInSilence nods : Habit
 
@@ -146,6 +146,7 @@ number startsDry = 26
 number rests = 27
 number stopsAtATrip = 28
 number tripsForNothing = 29
+number leavesAlight = 30
 
 module _ (habit : Habit) where
   abbrev has : Habit → Bool
@@ -171,7 +172,7 @@ module _ (habit : Habit) where
 
   -- in FAULT, with no cause: a clear, or else a timed retry where there is room for one
   abbrev inFault : (armed timed clear : Bool) → (used limit waited : ℕ) → Toy
-  inFault armed timed true used limit waited = toy stop armed false timed 0 limit 0
+  inFault armed timed true used limit waited = toy stop armed (has leavesAlight) timed 0 limit 0
   inFault armed timed false used limit waited =
       cond
       ((timed || has retriesUntimed) && (leb 2 waited || has retriesAtOnce) && (ltb used limit || has retriesForEver))

@@ -9,23 +9,28 @@
 --
 -- How to read it. A `Seen` is the onlooker's note of one call and its answer. A history is the list of his notes, the newest first: in
 -- `call ∷ past`, `call` is the newest, and `past` is all that came before it. Each definition below is a test of a note or of a history,
--- and stands under the words of the demand that it renders; `Demand3`, at the end, joins them. `&&` is "and", `||` is "or".
+-- and stands under the words of the demand that it renders; `Demand3`, at the end, joins them. `&&` is "and", `||` is "or", `T b` says
+-- that b is true, `cond b x y` is x where b is true, else y, and `leb m n` is m ≤ n.
 --
 -- What has to be believed: this file; `Log.antt`, what a log of calls and answers is; `Onlooker.antt`, how the notes are made of it; and of
 -- a supervisor its `Words`, its machine and the statement that joins them (for the drive all three are in or named by `demands`
 -- specs/Supervised.antt). `Laws.antt` is only a way to prove the demand of a supervisor, `Page.antt` only a way to show the notes, and
 -- `proofs/Teeth.antt` shows the rule at work on a right supervisor and on wrong ones.
 --
--- Where the words leave a choice the stricter reading is taken. "That start" is the last one, and its own call counts among those since
--- it. It is a move from STOP at an accepted tick that held a high command; but whatever enters a starting or running state, at whatever
--- call, uses up the low and the retry before it, as "previous start". There must be a load. A live fault stands from a live cause or a live
--- word on until FAULT is left or a load accepted, whatever is shown in between. A tick that held a low is a stop; so is any state but a
--- starting or running one, and so are gates that neither charge nor drive. A low in the very tick that leaves FAULT is not after the exit.
--- FAULT is left at an accepted tick only, by a clear or by a retry that is timed, and only after a trip. The loaded limit is the one that
--- the load brought.
+-- Where the words leave a choice the stricter reading is taken:
+--   started      "that start" is the last move from STOP at an accepted tick that held a high command; its own call counts among those since it
+--   began        "the previous start" is whatever enters a starting or running state from outside, or the first of them from any other, at
+--                whatever call; it uses up the low and the retry before it, and ends the start before it
+--   everLoaded   there must be a load
+--   faulted      a live fault stands from a live cause or a live word on, until FAULT is left or a load accepted
+--   endsStart    a stop is a tick that held a low, any state but a starting or running one, and gates that neither charge nor drive
+--   noneOfThese  a low in the very tick that leaves FAULT is not after the exit
+--   exitRule     FAULT is left at an accepted tick only, by a clear or by a retry that is timed, and only after a trip
+--   limit        the loaded limit is the one that the load brought
 --
--- What it leaves to the other demands: that a call is refused only where its row holds (demand 1), that FAULT is entered at all, that the
--- causes which a supervisor counts over time are counted rightly (the live word shows them), and that starts happen (demand 2).
+-- What it leaves to the other demands: that a call is refused just where its row holds, no less and no more (demand 1); that FAULT is
+-- entered at all, that the causes which a supervisor counts over time are counted rightly (the live word shows them), in what order the
+-- starting and running states follow the first, and that starts happen (demand 2). Report lines change no state and are not in the log.
 use Prim.Native.Nat.{ℕ, suc}
 use mathlib.Core.Bool.{Bool, true, false, not, _&&_, _||_, cond}
 use mathlib.Core.List.{List, [], _∷_}
@@ -39,7 +44,7 @@ pub record Seen : Type 0 where
   pub low : Bool
   -- a start was taken: STOP was left for the state that a start leads to, at an accepted tick that held a high command
   pub started : Bool
-  -- a starting or running state was entered from another one, at whatever call
+  -- a starting or running state was entered from outside, or the first of them from any other state, at whatever call
   pub began : Bool
   -- FAULT was left, at whatever call
   pub exited : Bool
@@ -52,7 +57,7 @@ pub record Seen : Type 0 where
   -- the loaded retry limit
   pub limit : ℕ
   -- the answer's live word is not 0
-  pub faultStands : Bool
+  pub liveShown : Bool
   -- the answer's state is a starting or running one
   pub running : Bool
   -- the answer's gates charge or drive; the brake is neither
@@ -109,21 +114,21 @@ permitted past = everLoaded past && (lowSince past || retrySince past)
 -- a live fault after one call more: a live cause stood or the live word shows one, or one was there and neither a load nor an exit from
 -- FAULT ended it
 abbrev pub faulted : Seen → Bool → Bool
-faulted call before = call .causeStood || call .faultStands || not (call .loaded || call .exited) && before
+faulted call before = call .causeStood || call .liveShown || not (call .loaded || call .exited) && before
 
 -- "live fault stands"
 unfoldable pub faultStanding : List Seen → Bool
 faultStanding [] = false
 faultStanding (call ∷ past) = faulted call (faultStanding past)
 
--- what ends a start: a state or gates that do not run, a load, a tick that held a low
-abbrev pub disturbed : Seen → Bool
-disturbed call = not (call .running && call .turns) || call .loaded || call .low
+-- what ends a start: a state or gates that do not run, a load, a tick that held a low, and what begins anew and is no start
+abbrev pub endsStart : Seen → Bool
+endsStart call = not (call .running && call .turns) || call .loaded || call .low || call .began && not (call .started)
 
--- "a start was taken since the last accepted load, with no live fault and no stop since it": the call of the start included. That no live
--- fault stood since it follows, for the gates were on and the rule held after each of these calls (proofs/Since.antt `no-fault-since`)
+-- "a start was taken since the last accepted load, with no live fault and no stop since it": the call of the start included. "No live
+-- fault" is not tested here: it follows, for the gates were on and `gatesRule` held after each of these calls (proofs/Since.antt)
 unfoldable pub startTaken : List Seen → Bool
-startTaken history = since (λ call. not (disturbed call)) (λ call. call .started && not (disturbed call)) history
+startTaken history = since (λ call. not (endsStart call)) (λ call. call .started && not (endsStart call)) history
 
 -- "Before that start": all that came before the last start
 unfoldable pub beforeStart : List Seen → List Seen
@@ -139,11 +144,11 @@ gatesRule (call ∷ past) =
 
 -- ---- "At every exit from FAULT no live cause stood."
 
--- and it was a clear or a timed retry, so an accepted tick; and there was a trip: a live fault stood before it
+-- nor does the answer show one; it was a clear or a timed retry, so an accepted tick; and there was a trip: a live fault stood before it
 unfoldable pub exitRule : List Seen → Bool
 exitRule [] = true
 exitRule (call ∷ past) =
-    whenever (call .exited) (not (call .causeStood) && (call .clear || call .due) && faultStanding past)
+    whenever (call .exited) (not (call .causeStood || call .liveShown) && (call .clear || call .due) && faultStanding past)
 
 -- ---- "The timed retries .. never exceed the loaded limit."
 

@@ -8,7 +8,7 @@ use mathlib.Core.Bool.{Bool, false, not, _&&_, _||_}
 use lib.Dec.{T}
 use Rattle.history.specs.Log.{Machine, entry}
 use Rattle.history.specs.Onlooker.{Words, Memory, nothingYet, remember, note}
-use Rattle.history.specs.History.{Seen, retried, noLoadNorStart, noneOfThese, disturbed, counted}
+use Rattle.history.specs.History.{Seen, retried, noLoadNorStart, noneOfThese, endsStart, counted}
 
 -- What a supervisor holds inside.
 pub record Inside : Type 0 where
@@ -34,15 +34,15 @@ pub record Step (before : Inside) (call : Seen) (after : Inside) : Type 0 where
   pub armed-by-low-or-retry : T (after .armed) → T (retried call && noLoadNorStart call || noneOfThese call && (before .armed || call .low))
   pub start-asks : T (call .started) → T (before .loaded && before .armed)
   -- the live word shows the live fault; a live cause makes one, and only a load or an exit from FAULT ends it
-  pub fault-shown : call .faultStands ≡ after .faulted
+  pub fault-shown : call .liveShown ≡ after .faulted
   pub cause-faults : T (call .causeStood) → T (after .faulted)
   pub fault-stays : T (before .faulted) → T (not (call .loaded || call .exited)) → T (after .faulted)
   -- only a start lets the gates charge or drive; a disturbance takes this away, and only a start gives it back
-  pub turning-by-start : T (after .turning) → T (not (disturbed call) && (before .turning || call .started))
+  pub turning-by-start : T (after .turning) → T (not (endsStart call) && (before .turning || call .started))
   pub fault-ends-turning : T (after .turning) → T (not (after .faulted))
   pub gates-ask : T (call .turns) → T (after .turning)
   -- what an exit from FAULT asks
-  pub exit-asks : T (call .exited) → T (not (call .causeStood) && (call .clear || call .due) && before .faulted)
+  pub exit-asks : T (call .exited) → T (not (call .causeStood || call .liveShown) && (call .clear || call .due) && before .faulted)
   -- the retries used are those of the history, and never more than the limit
   pub count-follows : after .used ≡ counted call (before .used)
   pub count-within : after .used ≤ call .limit

@@ -1,6 +1,6 @@
--- The onlooker: he reads a log, oldest entry first, keeps a memory of his own, and notes of each entry what demand 3 speaks of. He never
--- sees the supervisor's state. Of an answer he trusts the number, the state, the gate and the live word; lows, highs, clears, the time
--- spent in FAULT, and the causes that the fields and the samples tell, he works out himself.
+-- The onlooker: he reads a log, oldest entry first, keeps a memory of his own, and notes of each entry what demand 3 speaks of. Of the
+-- supervisor he sees the answers only, and trusts their number, state, gate and live word; lows, highs, clears, the time spent in FAULT,
+-- and the causes that the fields and the samples tell, he works out himself.
 use Prim.Native.Nat.{ℕ, suc}
 use mathlib.Core.Bool.{Bool, true, false, not, _&&_, _||_, cond}
 use mathlib.Core.List.{List, [], _∷_}
@@ -19,7 +19,8 @@ pub data Asked (Tick : Type 0) : Type 0 where
   -- neither
   neither : Asked Tick
 
--- The words of a supervisor's calls and answers. Where a rule of the paper depends on the settings, they are the numbers of the last
+-- The words of a supervisor's calls and answers. An answer, a refusal's too, shows number, state, gate and live word as they are after the
+-- call. Where a rule of the paper depends on the settings, they are the numbers of the last
 -- accepted load, never those that a state holds.
 pub record Words (Call Answer : Type 0) : Type 1 where
   pub Tick : Type 0
@@ -28,7 +29,7 @@ pub record Words (Call Answer : Type 0) : Type 1 where
   -- the answer: its number is 0; the number of the state that it shows; its live word is not 0; its gates charge or drive
   pub accepted : Answer → Bool
   pub state : Answer → ℕ
-  pub faultStands : Answer → Bool
+  pub liveShown : Answer → Bool
   pub turns : Answer → Bool
   -- the states by their numbers: STOP, the one that a start leads to, FAULT, and all starting and running ones
   pub isStop : ℕ → Bool
@@ -40,7 +41,7 @@ pub record Words (Call Answer : Type 0) : Type 1 where
   pub high : List ℕ → Tick → Bool
   pub clear : Tick → Bool
   pub cause : List ℕ → Tick → Bool
-  -- the dead samples in a row with one accepted call more; so many of them are a live cause
+  -- the dead samples in a row with one accepted call more, where the loaded numbers may say which are dead; so many of them are a cause
   pub deadAfter : List ℕ → Call → ℕ → ℕ
   pub deadCause : List ℕ → ℕ → Bool
   -- timed retries: the loaded numbers allow them, from this tick of FAULT on, and at most so many
@@ -55,7 +56,7 @@ pub record Memory : Type 0 where
   pub numbers : List ℕ
   -- the number of the state that the last answer showed
   pub shown : ℕ
-  -- the accepted ticks since FAULT was entered: not the one that entered it
+  -- the accepted ticks made in FAULT since it was entered: the one that leaves it included, the one that entered it not
   pub waited : ℕ
   -- the dead samples in a row
   pub dead : ℕ
@@ -105,13 +106,15 @@ module _ {Call Answer : Type 0} (words : Words Call Answer) where
         loaded = isLoad about;
         low = isTickWith (words .low (now .numbers)) about;
         started = words .isStart (now .shown) && words .isStop (before .shown) && isTickWith (words .high (now .numbers)) about;
-        began = words .isRunning (now .shown) && not (words .isRunning (before .shown));
+        began =
+            words .isRunning (now .shown) && not (words .isRunning (before .shown))
+            || words .isStart (now .shown) && not (words .isStart (before .shown));
         exited = words .isFault (before .shown) && not (words .isFault (now .shown));
         clear = isTickWith (words .clear) about;
         due = isTick about && words .timed (now .numbers) && leb (words .wait) (now .waited);
         causeStood = isTickWith (words .cause (now .numbers)) about || words .deadCause (now .numbers) (now .dead);
         limit = words .limit (now .numbers);
-        faultStands = words .faultStands answer;
+        liveShown = words .liveShown answer;
         running = words .isRunning (now .shown);
         turns = words .turns answer;
       }
