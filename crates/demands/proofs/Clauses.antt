@@ -72,7 +72,8 @@ module _ (call : Call) (earlier : List Call) where
     exits =
         let free : Bool = not (now .causeStood || now .liveShown) in
         let way : Bool = now .clear || now .due in
-        let (two, third) = and-yes (free && way) (faultStanding past) (so (now .exited) (free && way && faultStanding past) (rules .1) exited) in
+        let trip : Bool = faultStanding past in
+        let (two, third) = and-yes (free && way) trip (so (now .exited) (free && way && trip) (rules .1) exited) in
         let (first, second) = and-yes free way two in
         (first, second, third)
 

@@ -68,8 +68,10 @@ nine false false false true e f g h i = positive (word (flags false false false 
 nine false false false false true f g h i = positive (word (flags false false false false true f g h i)) (omega arith)
 nine false false false false false true g h i = positive (word (flags false false false false false true g h i)) (omega arith)
 nine false false false false false false true h i = positive (word (flags false false false false false false true h i)) (omega arith)
-nine false false false false false false false true i = positive (word (flags false false false false false false false true i)) (omega arith)
-nine false false false false false false false false true = positive (word (flags false false false false false false false false true)) (omega arith)
+nine false false false false false false false true i =
+    positive (word (flags false false false false false false false true i)) (omega arith)
+nine false false false false false false false false true =
+    positive (word (flags false false false false false false false false true)) (omega arith)
 nine false false false false false false false false false = refl
 
 pub word-shows : (f : Flags) → not (eqb (word f) 0) ≡ any f

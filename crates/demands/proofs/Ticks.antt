@@ -84,7 +84,8 @@ module _ (settings : List ℕ) (hall : Hall) (flags : Flags) (cycles count : ℕ
   begins state onto = turning onto && not (turning state) || is 3 onto && not (is 3 state)
 
   same : (state : State) → T (not (begins state state))
-  same state = nor (turning state && not (turning state)) (is 3 state && not (is 3 state)) (never-both (turning state)) (never-both (is 3 state))
+  same state =
+      nor (turning state && not (turning state)) (is 3 state && not (is 3 state)) (never-both (turning state)) (never-both (is 3 state))
 
   onwards : (state onto : State) → T (turning state) → T (not (is 3 onto)) → T (not (begins state onto))
   onwards state onto runs on =

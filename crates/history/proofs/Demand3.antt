@@ -31,7 +31,7 @@ follows false false was false made stays = refl
 
 -- ---- one call
 
-module _ {before : Inside} {call : Seen} {after : Inside} {past : List Seen} (law : Step before call after) (borne : Borne before past) where
+module _ {before after : Inside} {call : Seen} {past : List Seen} (law : Step before call after) (borne : Borne before past) where
   -- only a load loads
   loaded-after : T (after .loaded) → T (everLoaded (call ∷ past))
   unfolding everLoaded
@@ -146,7 +146,14 @@ module _ {before : Inside} {call : Seen} {after : Inside} {past : List Seen} (la
 borne-at-power-up : Borne asleep []
 unfolding faultStanding retries
 borne-at-power-up =
-    record { loaded = λ now. absurd now; armed = λ now. absurd now; taken = λ now. absurd now; allowed = λ now. absurd now; faulted = refl; used = refl }
+    record {
+      loaded = λ now. absurd now;
+      armed = λ now. absurd now;
+      taken = λ now. absurd now;
+      allowed = λ now. absurd now;
+      faulted = refl;
+      used = refl;
+    }
 
 module _ (supervisor : Machine) (words : Words (supervisor .Call) (supervisor .Answer)) (lawful : Lawful supervisor words) where
   abbrev insideAfter : List (supervisor .Call) → Inside

@@ -111,9 +111,11 @@ pub data Habit : Type 0 where
   -- starts that nothing permits
   startsUnarmed startsInTheMiddle startsDry loadKeepsArmed startKeepsArmed tripKeepsArmed armsInFault wakesInStop : Habit
   -- exits from FAULT that must not be
-  tripsForNothing leavesAlight leavesWithCause leavesInASample leavesByALoad retriesAtOnce retriesUntimed retriesForEver raisesItsLimit storesMore : Habit
+  tripsForNothing leavesAlight leavesWithCause leavesInASample leavesByALoad : Habit
+  retriesAtOnce retriesUntimed retriesForEver raisesItsLimit storesMore : Habit
   -- turning when it must not
-  rests stopsAtATrip ignoresLow ignoresCause ignoresSamples drivesWithFault forgetsFault drivesInStop loadsInRun saysStop tripsInSilence nods : Habit
+  rests stopsAtATrip ignoresLow ignoresCause ignoresSamples drivesWithFault forgetsFault : Habit
+  drivesInStop loadsInRun saysStop tripsInSilence nods : Habit
 
 abbrev number : Habit → ℕ
 number sound = 0
@@ -205,7 +207,8 @@ module _ (habit : Habit) where
   next (toy idle armed flag timed used limit waited) glitch = toy idle armed flag timed used limit waited
   next (toy stop armed flag timed used limit waited) glitch = toy stop armed true timed used limit waited
   next (toy run armed flag timed used limit waited) glitch =
-      cond (has rests) (toy run (not armed) flag timed used limit waited) (toy run armed (flag || not (has ignoresSamples)) timed used limit waited)
+      cond (has rests) (toy run (not armed) flag timed used limit waited)
+      (toy run armed (flag || not (has ignoresSamples)) timed used limit waited)
   next (toy fault armed flag timed used limit waited) glitch =
       cond (has leavesInASample) (toy stop true false timed used limit 0) (toy fault armed true timed used limit waited)
   next (toy idle armed flag timed used limit waited) halt =

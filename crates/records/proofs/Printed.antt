@@ -1,4 +1,3 @@
-use Rattle.drive.specs.AnyCall.{Call as Record, loads as aLoad, cycles as aCycle, ticks as aTick, reply as replyTo}
 -- Every answer that the run prints is accepted by the line call where 45 bytes are lent: its number comes from a table whose numbers
 -- are small, its state and its gate from the drive.
 use mathlib.Core.Path.{_≡_}
@@ -10,6 +9,7 @@ use lib.Dec.{T, eqb, leb, leb→le}
 use mir.Facts.{and-yes}
 use Rattle.numbers.specs.Choose.{pick}
 use Rattle.states.specs.States.{numberOf, is, turning}
+use Rattle.drive.specs.AnyCall.{Call as Record, loads as aLoad, cycles as aCycle, ticks as aTick, reply as replyTo}
 use Rattle.drive.specs.Flags.{any}
 use Rattle.drive.specs.Answer.{gate, alive, answer, reply}
 use Rattle.verdicts.specs.Table.{Row, told, verdict}

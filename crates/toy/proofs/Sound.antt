@@ -23,7 +23,13 @@ wasLoaded fault = true
 
 abbrev inside : Toy → Inside
 inside (toy spot armed flag timed used limit waited) =
-    record { loaded = wasLoaded spot; armed = armed; faulted = flag; turning = turns sound (toy spot armed flag timed used limit waited); used = used }
+    record {
+      loaded = wasLoaded spot;
+      armed = armed;
+      faulted = flag;
+      turning = turns sound (toy spot armed flag timed used limit waited);
+      used = used;
+    }
 
 -- what is known of a state outside IDLE, and of what the onlooker remembers of it
 record Known (flag timed : Bool) (used limit : ℕ) (memory : Memory) : Type 0 where
@@ -133,7 +139,8 @@ module _ (timed : Bool) (used limit waited : ℕ) (memory : Memory) where
 
 done : (state : Toy) (memory : Memory) → Good state memory → (call : Press) → Done state memory call
 done (toy idle true flag timed used limit waited) memory good call = absurd (good .1)
-done (toy idle false flag timed used limit waited) memory good call = in-idle timed used limit waited memory flag (good .0) (good .2) (good .3) call
+done (toy idle false flag timed used limit waited) memory good call =
+    in-idle timed used limit waited memory flag (good .0) (good .2) (good .3) call
 done (toy stop armed flag timed used limit waited) memory good call =
     in-stop timed used limit waited memory armed flag (good .0) (good .1) call
 done (toy run armed flag timed used limit waited) memory good call =

@@ -1,3 +1,4 @@
+-- Each arm of `judged` names the two patterns beside its own, as the clockwise order has them; a pattern that no arm names is dead.
 use borrow.Author.Needs.{needs}
 use borrow.Author.Tests.{ne-eqb}
 use Rattle.hall.specs.Fate.{fate}
