@@ -11,10 +11,10 @@ fn print_lines(input: &[u8], output: &mut [u8]) {
     io::write_all(STDOUT_FILENO, &output[..written]);
 }
 
-// 2,000 records and their lines.
+// 3,000 records and their lines.
 fn main() {
     let mut input = [0u8; 32768];
-    let mut output = [0u8; 90000];
+    let mut output = [0u8; 135000];
     let count = io::read_full(STDIN_FILENO, &mut input);
     print_lines(&input[..count], &mut output);
 }
