@@ -6,7 +6,7 @@ use mathlib.Core.List.{List, [], _∷_, reverse}
 use Rattle.history.specs.Log.{stateAfter, log}
 use Rattle.history.specs.Onlooker.{memoryOf, notes}
 use Rattle.history.specs.History.{Seen, lowSince, retrySince, everLoaded, permitted, faultStanding, startTaken, beforeStart, gatesRule, exitRule, retries, retryRule, holds}
-use Rattle.history.proofs.Toy.{down, middle, up, fields, Press, loads, ticks, glitch, halt, words, Habit, machine, sound, startsUnarmed, startsInTheMiddle, startsDry, loadKeepsArmed, startKeepsArmed, tripKeepsArmed, armsInFault, wakesInStop, tripsForNothing, leavesAlight, leavesWithCause, leavesInASample, leavesByALoad, retriesAtOnce, retriesUntimed, retriesForEver, raisesItsLimit, storesMore, rests, stopsAtATrip, ignoresLow, ignoresCause, ignoresSamples, drivesWithFault, forgetsFault, drivesInStop, loadsInRun, saysStop, tripsInSilence, nods}
+use Rattle.history.proofs.Toy.{down, middle, up, fields, Press, loads, ticks, glitch, halt, words, Habit, machine, sound, startsUnarmed, startsInTheMiddle, startsDry, loadKeepsArmed, startKeepsArmed, tripKeepsArmed, armsInFault, wakesInStop, tripsForNothing, leavesAlight, leavesWithCause, leavesInASample, leavesByALoad, waitsOverALoad, retriesAtOnce, retriesUntimed, retriesForEver, raisesItsLimit, storesMore, rests, stopsAtATrip, ignoresLow, ignoresCause, ignoresSamples, drivesWithFault, forgetsFault, drivesInStop, loadsInRun, saysStop, tripsInSilence, nods}
 
 -- ---- calls by name
 
@@ -105,6 +105,7 @@ rows =
     -- a retry is timed: not before its time, and not in a mode that has none
     (retriesAtOnce, once ∷ trip ∷ high ∷ []) ∷
     (retriesUntimed, loads false 1 ∷ trip ∷ high ∷ high ∷ []) ∷
+    (waitsOverALoad, loads false 1 ∷ trip ∷ high ∷ once ∷ high ∷ []) ∷
     -- .. and follows a trip: a live fault was there
     (tripsForNothing, once ∷ high ∷ high ∷ high ∷ []) ∷
     -- no more retries than the load allowed

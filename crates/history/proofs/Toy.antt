@@ -112,7 +112,7 @@ pub data Habit : Type 0 where
   startsUnarmed startsInTheMiddle startsDry loadKeepsArmed startKeepsArmed tripKeepsArmed armsInFault wakesInStop : Habit
   -- exits from FAULT that must not be
   tripsForNothing leavesAlight leavesWithCause leavesInASample leavesByALoad : Habit
-  retriesAtOnce retriesUntimed retriesForEver raisesItsLimit storesMore : Habit
+  waitsOverALoad retriesAtOnce retriesUntimed retriesForEver raisesItsLimit storesMore : Habit
   -- turning when it must not
   rests stopsAtATrip ignoresLow ignoresCause ignoresSamples drivesWithFault forgetsFault : Habit
   drivesInStop loadsInRun saysStop tripsInSilence nods : Habit
@@ -149,6 +149,7 @@ number rests = 27
 number stopsAtATrip = 28
 number tripsForNothing = 29
 number leavesAlight = 30
+number waitsOverALoad = 31
 
 module _ (habit : Habit) where
   abbrev has : Habit → Bool
@@ -191,7 +192,8 @@ module _ (habit : Habit) where
   next (toy run armed flag timed used limit waited) (loads retry most) =
       cond (has loadsInRun) (toy run armed false retry 0 most 0) (toy run armed flag timed used limit waited)
   next (toy fault armed flag timed used limit waited) (loads retry most) =
-      cond (has leavesByALoad) (loaded false retry most) (toy fault armed flag timed used limit waited)
+      cond (has leavesByALoad) (loaded false retry most)
+      (cond (has waitsOverALoad) (toy fault armed flag retry 0 most waited) (toy fault armed flag timed used limit waited))
   next (toy idle armed flag timed used limit waited) (ticks f) = toy idle armed flag timed used limit waited
   next (toy stop armed flag timed used limit waited) (ticks (fields cause clear lever)) =
       cond (flag || cause) (toy fault (has tripKeepsArmed && (armed || isDown lever)) true timed used limit 0)
@@ -239,7 +241,7 @@ module _ (habit : Habit) where
   accepts (toy idle armed flag timed used limit waited) (loads retry most) = true
   accepts (toy stop armed flag timed used limit waited) (loads retry most) = true
   accepts (toy run armed flag timed used limit waited) (loads retry most) = has loadsInRun
-  accepts (toy fault armed flag timed used limit waited) (loads retry most) = has leavesByALoad
+  accepts (toy fault armed flag timed used limit waited) (loads retry most) = has leavesByALoad || has waitsOverALoad
   accepts (toy idle armed flag timed used limit waited) (ticks f) = false
   accepts (toy idle armed flag timed used limit waited) glitch = false
   accepts (toy idle armed flag timed used limit waited) halt = has nods

@@ -56,7 +56,8 @@ pub record Memory : Type 0 where
   pub numbers : List ℕ
   -- the number of the state that the last answer showed
   pub shown : ℕ
-  -- the accepted ticks made in FAULT since it was entered: the one that leaves it included, the one that entered it not
+  -- the accepted ticks made in FAULT since it was entered, and since the last accepted load: the one that leaves it included, the one
+  -- that entered it not
   pub waited : ℕ
   -- the dead samples in a row
   pub dead : ℕ
@@ -95,7 +96,10 @@ module _ {Call Answer : Type 0} (words : Words Call Answer) where
       record {
         numbers = numbersAfter (heard e) (memory .numbers);
         shown = words .state (e .answer);
-        waited = cond (words .isFault (memory .shown)) (cond (isTick (heard e)) (suc (memory .waited)) (memory .waited)) 0;
+        waited =
+            cond (words .isFault (memory .shown) && not (isLoad (heard e)))
+            (cond (isTick (heard e)) (suc (memory .waited)) (memory .waited))
+            0;
         dead = cond (words .accepted (e .answer)) (words .deadAfter (memory .numbers) (e .call) (memory .dead)) (memory .dead);
       }
 
