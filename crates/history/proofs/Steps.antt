@@ -6,7 +6,7 @@ use Prim.Native.Nat.{suc, _≤_}
 use lib.Dec.{T}
 use lib.Ieee.Bits.{is-true, is-false}
 use mir.Facts.{and-yes}
-use Rattle.history.specs.History.{Seen, endsStart}
+use Rattle.history.specs.History.{Seen, retried, noLoadNorStart, noneOfThese, endsStart, counted}
 use Rattle.history.specs.Laws.{Inside, Step}
 use Rattle.history.proofs.Bools.{never, joins}
 
@@ -19,6 +19,31 @@ module _
     (kept : T (before .faulted) → T (not (call .loaded || call .exited)) → T (after .faulted))
     (dark : T (after .turning) → T (not (after .faulted)))
   where
+    -- what is left to show of a call, in the order of the laws: loading, arming, starting, turning, leaving FAULT, counting
+    laws :
+        (T (after .loaded) → T (before .loaded || call .loaded))
+        → (T (after .armed) → T (retried call && noLoadNorStart call || noneOfThese call && (before .armed || call .low)))
+        → (T (call .started) → T (before .loaded && before .armed))
+        → (T (after .turning) → T (not (endsStart call) && (before .turning || call .started)))
+        → (T (call .exited) → T (not (call .causeStood || call .liveShown) && (call .clear || call .due) && before .faulted))
+        → after .used ≡ counted call (before .used)
+        → Step before call after
+    laws loads arms starts turns exits counts =
+        record {
+          loaded-by-load = loads;
+          armed-by-low-or-retry = arms;
+          start-asks = starts;
+          fault-shown = shown;
+          cause-faults = caused;
+          fault-stays = kept;
+          turning-by-start = turns;
+          fault-ends-turning = dark;
+          gates-ask = gates;
+          exit-asks = exits;
+          count-follows = counts;
+          count-within = within;
+        }
+
     -- neither load, start nor exit: only a low arms, and what turns has turned before
     pub passes-by :
         T (not (call .loaded))
@@ -31,20 +56,13 @@ module _
         → after .used ≡ before .used
         → Step before call after
     passes-by no-load no-start none-began no-exit loaded armed turning same =
-        record {
-          loaded-by-load = λ now. let was = loaded now in search joins;
-          armed-by-low-or-retry = λ now. let by = armed now in search joins;
-          start-asks = never (call .started) no-start;
-          turning-by-start = λ now. let (calm, was) = and-yes (not (endsStart call)) (before .turning) (turning now) in search joins;
-          fault-shown = shown;
-          cause-faults = caused;
-          fault-stays = kept;
-          fault-ends-turning = dark;
-          gates-ask = gates;
-          exit-asks = never (call .exited) no-exit;
-          count-follows = rw (is-false (call .loaded) no-load, is-false (call .exited) no-exit) same;
-          count-within = within;
-        }
+        laws
+        (λ now. let was = loaded now in search joins)
+        (λ now. let by = armed now in search joins)
+        (never (call .started) no-start)
+        (λ now. let (calm, was) = and-yes (not (endsStart call)) (before .turning) (turning now) in search joins)
+        (never (call .exited) no-exit)
+        (rw (is-false (call .loaded) no-load, is-false (call .exited) no-exit) same)
 
     -- an accepted load: nothing is armed, nothing turns, no retry is used
     pub loads :
@@ -56,20 +74,13 @@ module _
         → after .used ≡ 0
         → Step before call after
     loads load no-start no-exit disarmed rests none =
-        record {
-          loaded-by-load = λ now. search joins;
-          armed-by-low-or-retry = never (after .armed) disarmed;
-          start-asks = never (call .started) no-start;
-          turning-by-start = never (after .turning) rests;
-          fault-shown = shown;
-          cause-faults = caused;
-          fault-stays = kept;
-          fault-ends-turning = dark;
-          gates-ask = gates;
-          exit-asks = never (call .exited) no-exit;
-          count-follows = rw (is-true (call .loaded) load) none;
-          count-within = within;
-        }
+        laws
+        (λ now. search joins)
+        (never (after .armed) disarmed)
+        (never (call .started) no-start)
+        (never (after .turning) rests)
+        (never (call .exited) no-exit)
+        (rw (is-true (call .loaded) load) none)
 
     -- the start, of what was loaded and armed; it disarms
     pub starts :
@@ -83,22 +94,15 @@ module _
         → after .used ≡ before .used
         → Step before call after
     starts no-load start no-exit loaded armed disarmed calm same =
-        record {
-          loaded-by-load = λ now. search joins;
-          armed-by-low-or-retry = never (after .armed) disarmed;
-          start-asks = λ now. search joins;
-          turning-by-start = λ now. let quiet = calm now in search joins;
-          fault-shown = shown;
-          cause-faults = caused;
-          fault-stays = kept;
-          fault-ends-turning = dark;
-          gates-ask = gates;
-          exit-asks = never (call .exited) no-exit;
-          count-follows = rw (is-false (call .loaded) no-load, is-false (call .exited) no-exit) same;
-          count-within = within;
-        }
+        laws
+        (λ now. search joins)
+        (never (after .armed) disarmed)
+        (λ now. search joins)
+        (λ now. let quiet = calm now in search joins)
+        (never (call .exited) no-exit)
+        (rw (is-false (call .loaded) no-load, is-false (call .exited) no-exit) same)
 
-    -- FAULT is left: no cause stood, and nothing turns
+    -- FAULT is left: no cause stood, a live fault had, and nothing turns
     module _
         (no-load : T (not (call .loaded)))
         (no-start : T (not (call .started)))
@@ -115,41 +119,26 @@ module _
 
         pub clears : T (call .clear) → T (not (after .armed)) → after .used ≡ 0 → Step before call after
         clears clear disarmed none =
-            record {
-              loaded-by-load = λ now. let was = loaded now in search joins;
-              armed-by-low-or-retry = never (after .armed) disarmed;
-              start-asks = never (call .started) no-start;
-              turning-by-start = never (after .turning) rests;
-              fault-shown = shown;
-              cause-faults = caused;
-              fault-stays = kept;
-              fault-ends-turning = dark;
-              gates-ask = gates;
-              exit-asks = λ now. let hidden = none-shown in search joins;
-              count-follows = rw (is-false (call .loaded) no-load, is-true (call .exited) exit, is-true (call .clear) clear) none;
-              count-within = within;
-            }
+            laws
+            (λ now. let was = loaded now in search joins)
+            (never (after .armed) disarmed)
+            (never (call .started) no-start)
+            (never (after .turning) rests)
+            (λ now. let hidden = none-shown in search joins)
+            (rw (is-false (call .loaded) no-load, is-true (call .exited) exit, is-true (call .clear) clear) none)
 
         pub retries : T (not (call .clear)) → T (call .due) → after .used ≡ suc (before .used) → Step before call after
         retries no-clear due one-more =
-            record {
-              loaded-by-load = λ now. let was = loaded now in search joins;
-              armed-by-low-or-retry = λ now. search joins;
-              start-asks = never (call .started) no-start;
-              turning-by-start = never (after .turning) rests;
-              fault-shown = shown;
-              cause-faults = caused;
-              fault-stays = kept;
-              fault-ends-turning = dark;
-              gates-ask = gates;
-              exit-asks = λ now. let hidden = none-shown in search joins;
-              count-follows =
-                  rw (
-                    is-false (call .loaded) no-load,
-                    is-true (call .exited) exit,
-                    is-false (call .clear) no-clear,
-                    is-true (call .due) due,
-                  )
-                  one-more;
-              count-within = within;
-            }
+            laws
+            (λ now. let was = loaded now in search joins)
+            (λ now. search joins)
+            (never (call .started) no-start)
+            (never (after .turning) rests)
+            (λ now. let hidden = none-shown in search joins)
+            (rw (
+              is-false (call .loaded) no-load,
+              is-true (call .exited) exit,
+              is-false (call .clear) no-clear,
+              is-true (call .due) due,
+            )
+            one-more)
