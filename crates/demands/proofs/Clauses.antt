@@ -6,10 +6,11 @@ use lib.Dec.{T, leb→le}
 use mir.Facts.{and-yes}
 use Rattle.history.specs.Log.{stateAfter, entry, log}
 use Rattle.history.specs.Onlooker.{memoryOf, note, notes}
-use Rattle.history.specs.History.{Seen, since, holds, gatesRule, exitRule, retryRule, faultStanding, startTaken, permitted, beforeStart, lowSince, retrySince, everLoaded, retries, whenever}
+use Rattle.history.specs.History.{Seen, since, holds, gatesRule, exitRule, retryRule, faultStanding, startTaken, permitted, beforeStart}
+use Rattle.history.specs.History.{lowSince, retrySince, everLoaded, retries, whenever}
 use Rattle.history.proofs.Since.{quiet, no-fault-since}
 use Rattle.drive.specs.AnyCall.{Call}
-use Rattle.reached.specs.Calls.{machine}
+use Rattle.reached.specs.Machine.{machine}
 use Rattle.demands.specs.Supervised.{words}
 use Rattle.demands.proofs.Lawful.{drive-demand3}
 

@@ -11,5 +11,7 @@ use Rattle.settings.specs.Rules
 use Rattle.drive.specs.Calls
 
 unfoldable pub computes : Unit {0}
-unfolding Fate.fate Fate.beside Angle.twelfth Angle.sectorOf Angle.withOffset Sample.sampled Sample.deadSample Sample.straySample Reference.toward Reference.target0 Reference.targetOf Answer.answer Causes.causes Counts.watched Moves.moveOf Rules.settingRows Calls.load Calls.cycle Calls.tick Calls.cycled Calls.ticked
+unfolding Fate.fate Fate.beside Angle.twelfth Angle.sectorOf Angle.withOffset Sample.sampled Sample.deadSample Sample.straySample
+    Reference.toward Reference.target0 Reference.targetOf Answer.answer Causes.causes Counts.watched Moves.moveOf
+    Rules.settingRows Calls.load Calls.cycle Calls.tick Calls.cycled Calls.ticked
 computes = tt

@@ -8,7 +8,8 @@ use lib.IntN.{ℤ, pos, negsuc, negℤ, natAbs}
 use Rattle.numbers.specs.Choose.{pick}
 use Rattle.states.specs.States.{is, turning}
 use Rattle.states.specs.declared.State.{State}
-use Rattle.states.specs.declared.State.the-variants.{Idle, Stop, OffsetCal, BtsCharge, MotorRun, Fault, CatchSpin, Parking, OpenLoop, AngleSensing}
+use Rattle.states.specs.declared.State.the-variants.{Idle, Stop, OffsetCal, BtsCharge, MotorRun, Fault, CatchSpin, Parking, OpenLoop}
+use Rattle.states.specs.declared.State.the-variants.{AngleSensing}
 use Rattle.fields.specs.declared.Tick.{Tick}
 use Rattle.motor.specs.Counts.{watched}
 use Rattle.motor.specs.declared.Watched.{Watched}

@@ -13,7 +13,8 @@ use Rattle.drive.specs.Flags.{any, word}
 use Rattle.drive.specs.Answer.{gateOf, gate}
 use Rattle.drive.specs.declared.flags.Flags.{Flags}
 use Rattle.states.specs.declared.State.{State}
-use Rattle.states.specs.declared.State.the-variants.{Idle, Stop, OffsetCal, BtsCharge, MotorRun, Fault, CatchSpin, Parking, OpenLoop, AngleSensing}
+use Rattle.states.specs.declared.State.the-variants.{Idle, Stop, OffsetCal, BtsCharge, MotorRun, Fault, CatchSpin, Parking, OpenLoop}
+use Rattle.states.specs.declared.State.the-variants.{AngleSensing}
 
 abbrev charges-or-drives : ℕ → Bool
 charges-or-drives n = not (eqb n 0 || eqb n 3)

@@ -110,7 +110,8 @@ module _ (a b : List ℕ) where
   grown =
       either (eqb (length a) 0) end _ (λ none. no-byte (eqb-true (length a) 0 none))
       (λ some. either (eqb (byte 0 a) (code "L")) _ _ (λ is. held-grown (loads (settingsOf a)) (omega arith) (grown-load some is))
-      (λ no-load. either (eqb (byte 0 a) (code "C")) _ _ (λ is. held-grown (cycles (cycleOf a)) (omega arith) (grown-cycle some no-load is))
+      (λ no-load. either (eqb (byte 0 a) (code "C")) _ _
+      (λ is. held-grown (cycles (cycleOf a)) (omega arith) (grown-cycle some no-load is))
       (λ no-cycle. either (eqb (byte 0 a) (code "T")) _ _
       (λ is. held-grown (ticks (tickOf a)) (omega arith) (grown-tick some no-load no-cycle is))
       (λ no-tick. grown-unknown some no-load no-cycle no-tick))))

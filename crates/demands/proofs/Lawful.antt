@@ -4,12 +4,11 @@ use mathlib.Core.Bool.{Bool, true, false, not, _&&_, _||_}
 use mathlib.Core.List.{List}
 use Prim.Native.Nat.{ℕ, _≤_, zero-le}
 use lib.Dec.{T, eqb, not-T}
-use lib.Ieee.Bits.{is-false}
-use mir.Facts.{and-yes, eqb-yes, ltb-no}
-use Rattle.numbers.proofs.Choices.{by-test, decide}
+use mir.Facts.{and-yes, ltb-no}
+use Rattle.numbers.proofs.Choices.{decide}
 use Rattle.history.specs.Onlooker.{Memory, Asked, neither, heard, remember, noted, note}
 use Rattle.history.specs.Laws.{Step, Lawful}
-use Rattle.history.proofs.Bools.{or-left, nor, contrary, joins}
+use Rattle.history.proofs.Bools.{or-left, fails-left, fails-right, contrary, joins}
 use Rattle.history.proofs.Steps
 use Rattle.history.proofs.Demand3.{demand3}
 use Rattle.states.specs.States.{numberOf, is, turning}
@@ -18,9 +17,8 @@ use Rattle.drive.specs.Flags.{any}
 use Rattle.drive.specs.Command.{low}
 use Rattle.drive.specs.Answer.{alive, answer, reply as replied}
 use Rattle.verdicts.specs.Table.{verdict}
-use Rattle.verdicts.specs.declared.Verdict.{Verdict}
 use Rattle.drive.specs.Refusals.{loadRows, cycleRows, tickRows}
-use Rattle.drive.specs.Calls.{fresh, cycled, ticked, sample, settle}
+use Rattle.drive.specs.Calls.{fresh, cycled, ticked, sample}
 use Rattle.drive.specs.Calls
 use Rattle.drive.specs.AnyCall.{Call, loads, cycles, ticks, reply}
 use Rattle.drive.specs.declared.Drive.{Drive}
@@ -31,18 +29,19 @@ use Rattle.states.specs.declared.State.the-variants.{Stop}
 use Rattle.hall.specs.declared.Hall.{Hall}
 use Rattle.drive.specs.declared.flags.Flags.{Flags}
 use Rattle.drive.specs.declared.offsets.Offsets.{Offsets}
-use Rattle.reached.specs.Calls.{machine}
+use Rattle.reached.specs.Machine.{machine}
 use Rattle.reached.specs.Reached.{Reached}
-use Rattle.reached.proofs.Verdicts.{passed, accepted-state}
+use Rattle.reached.proofs.Verdicts.{settles, passed, accepted-state}
 use Rattle.reached.proofs.Flags.{stays-with-hall}
 use Rattle.reached.proofs.Keeps.{reached-power-up, cycled-reached, call-keeps}
 use Rattle.reached.proofs.Corollaries.{disarmed-in-fault, low-excludes-high}
 use Rattle.demands.specs.Supervised.{words, deadCauseOf, DriveDemand3}
 use Rattle.demands.proofs.Shown.{inside, fault-shown, gates-ask, dark, shows-turning}
 use Rattle.demands.proofs.Causes.{dead-shows}
-use Rattle.demands.proofs.Remembers.{Remembers, remembers-power-up, afterRefused, refused-remembers, load-remembers, cycle-remembers, tick-remembers}
+use Rattle.demands.proofs.Remembers.{Remembers, remembers-power-up, afterRefused, refused-remembers, load-remembers}
+use Rattle.demands.proofs.Remembers.{cycle-remembers, tick-remembers}
 use Rattle.demands.proofs.Ticks
-use Rattle.demands.proofs.Tests.{fails-left, fails-right, never-both, idle-or-stop}
+use Rattle.demands.proofs.Tests.{never-both, idle-or-stop, not-both, begins, begins-nothing}
 
 -- ---- a call in a reached state, with an onlooker who remembers what is so
 
@@ -52,14 +51,6 @@ module _ (d : Drive) (memory : Memory) (call : Call) where
     pub remembers : Remembers (r .drive) (remember words memory (record { call = call; answer = r .answer }))
     pub obeys : Step (inside d) (note words memory (record { call = call; answer = r .answer })) (inside (r .drive))
 
--- a call that settles by its verdict
-settles : (P : Reply → Type 0) (v : Verdict) (next d : Drive)
-    → (v .number ≡ 0 → P (replied 0 0 next))
-    → (eqb (v .number) 0 ≡ false → P (replied (v .number) (v .place) d))
-    → P (settle v next d)
-settles P v next d accepted refused =
-    by-test P (eqb (v .number) 0) (λ t. accepted (eqb-yes t)) (λ t. refused (is-false (eqb (v .number) 0) t))
-
 same-memory :
     (m : Memory) {numbers : List ℕ} {shown : ℕ} {dead : ℕ}
     → m .numbers ≡ numbers
@@ -67,10 +58,6 @@ same-memory :
     → m .dead ≡ dead
     → record { numbers = numbers; shown = shown; waited = m .waited; dead = dead } ≡ m
 same-memory m a b c = rw (← a, ← b, ← c)
-
-not-both : (a b : Bool) → (T a → T (not b)) → T (not (a && b))
-not-both true b f = f tt
-not-both false b f = tt
 
 module _ (d : Drive) (r : Reached d) (memory : Memory) (knows : Remembers d memory) where
   -- the retries used are within the limit that he remembers
@@ -111,16 +98,6 @@ module _ (d : Drive) (r : Reached d) (memory : Memory) (knows : Remembers d memo
         let none : hall .dead ≡ 0 = ap (λ (e : Drive). e .hall .dead) (r-now .idle idle) in absurd (rw (knows-now .dead, none) at cause))
         (λ outside. dead-shows stood r-now (rw (knows-now .loaded outside, knows-now .dead) at cause))
 
-    -- what stays begins nothing
-    abbrev begins : Bool
-    begins = turning (d .state) && not (turning (d .state)) || is 3 (d .state) && not (is 3 (d .state))
-
-    same-place : T (not begins)
-    same-place =
-        nor (turning (d .state) && not (turning (d .state))) (is 3 (d .state) && not (is 3 (d .state)))
-        (never-both (turning (d .state)))
-        (never-both (is 3 (d .state)))
-
     stands :
         (number at : ℕ) (now : Memory)
         → Reached stood
@@ -138,7 +115,7 @@ module _ (d : Drive) (r : Reached d) (memory : Memory) (knows : Remembers d memo
         (dark number at stood)
         tt
         (fails-right (eqb (now .shown) 3 && eqb (memory .shown) 1) false tt)
-        (rw (knows .shown, knows-now .shown) same-place)
+        (rw (knows .shown, knows-now .shown) (begins-nothing (d .state)))
         (rw (knows .shown, knows-now .shown) (never-both (is 5 (d .state))))
         (λ is. is)
         (or-left (d .armed) false)
@@ -146,7 +123,8 @@ module _ (d : Drive) (r : Reached d) (memory : Memory) (knows : Remembers d memo
         let (runs, dim) = and-yes (turning (d .state)) (not (any (alive stood))) turns in
         let drives = shows-turning number at stood turns in
         let was = contrary (any (alive d)) (any (alive stood)) more dim in
-        let begun = fails-left begins (not (is 3 (d .state) && is 1 (d .state) && false)) same-place in
+        let no-start : Bool = not (is 3 (d .state) && is 1 (d .state) && false) in
+        let begun = fails-left (begins (d .state) (d .state)) no-start (begins-nothing (d .state)) in
         rw (knows .shown, knows-now .shown) (search joins depth 9))
         refl
 
@@ -173,7 +151,10 @@ module _ (d : Drive) (r : Reached d) (memory : Memory) (knows : Remembers d memo
               (stands (d .hall) (d .flags) (d .cycles) (d .offsets) number at after r (λ t. t) now loaded-nothing);
         }
 
-  load-done : (numbers : List ℕ) → T (is 0 (d .state) || is 1 (d .state)) → Done d memory (loads numbers) (replied 0 0 (fresh Stop numbers))
+  load-done :
+      (numbers : List ℕ)
+      → T (is 0 (d .state) || is 1 (d .state))
+      → Done d memory (loads numbers) (replied 0 0 (fresh Stop numbers))
   unfolding answer
   load-done numbers admitted =
       record {

@@ -5,41 +5,31 @@ use mathlib.Core.Bool.{Bool, true, false, not, _&&_}
 use mathlib.Core.List.{List, [], _∷_, _++_, reverse}
 use Prim.Native.Nat.{ℕ}
 use lib.Dec.{eqb}
-use lib.IntN.{pos}
 use lib.ListN.{drop}
 use Rattle.numbers.specs.Choose.{pick}
-use Rattle.history.specs.Log.{Machine, stateAfter, log}
-use Rattle.history.specs.Onlooker.{memoryOf, notes}
-use Rattle.history.specs.History.{Seen, lowSince, retrySince, everLoaded, permitted, faultStanding, startTaken, beforeStart, gatesRule, exitRule, retries, retryRule, holds}
+use Rattle.history.specs.Log.{log}
+use Rattle.history.specs.Onlooker.{notes}
+use Rattle.history.specs.History.{Seen, holds}
 use Rattle.states.specs.States.{is}
 use Rattle.states.specs.declared.State.{State}
 use Rattle.states.specs.declared.State.the-variants.{Idle, Stop, BtsCharge, MotorRun}
 use Rattle.fields.specs.declared.Tick.{Tick}
 use Rattle.drive.specs.Flags.{none}
 use Rattle.drive.specs.Answer.{gateOf, reply as replied}
-use Rattle.drive.specs.Calls.{powerUp, fresh, arrive, retried}
+use Rattle.drive.specs.Calls.{fresh, arrive, retried}
 use Rattle.drive.specs.AnyCall.{Call, loads, cycles, ticks, reply}
 use Rattle.drive.specs.declared.Drive.{Drive}
 use Rattle.drive.specs.declared.answer.Answer.{Answer}
 use Rattle.drive.specs.declared.answer.Reply.{Reply}
+use Rattle.history.proofs.Judges.{judges}
+use Rattle.reached.specs.Machine.{machineOf}
 use Rattle.demands.proofs.Computes.{computes}
-use Rattle.demands.specs.Calls.{settingsWith, loaded, loadedInMode1, shows, tickWith, low, high, over, clear, ready, started}
+use Rattle.demands.specs.NamedCalls.{settingsWith, loaded, loadedInMode1, shows, tickWith, low, high, over, clear, ready, started}
 use Rattle.demands.specs.Supervised.{words}
 
 -- a drive is what it replies in each state
 abbrev Replies : Type 0
 Replies = Drive → Call → Reply
-
-abbrev machineOf : Replies → Machine
-machineOf replies =
-    record {
-      State = Drive;
-      Call = Call;
-      Answer = Answer;
-      powerUp = powerUp;
-      step = λ d call. replies d call .drive;
-      answer = λ d call. replies d call .answer;
-    }
 
 -- ---- blind drives: a field of a tick is read as a harmless number, in every state, in MOTORRUN alone, or elsewhere alone
 
@@ -86,10 +76,14 @@ hidesFiltered = hiding seen seen seen seen (always 2623) seen
 abbrev hidesTemperature : Hides
 hidesTemperature = hiding seen seen seen seen seen (always 1000)
 
+-- a call with such fields
+abbrev altered : Hides → Call → Call
+altered hide (loads numbers) = loads numbers
+altered hide (cycles fields) = cycles fields
+altered hide (ticks fields) = ticks (hide fields)
+
 abbrev blindWhere : (State → Bool) → Hides → Replies
-blindWhere there hide d (loads numbers) = reply d (loads numbers)
-blindWhere there hide d (cycles fields) = reply d (cycles fields)
-blindWhere there hide d (ticks fields) = reply d (ticks (pick (there (d .state)) (hide fields) fields))
+blindWhere there hide d call = reply d (pick (there (d .state)) (altered hide call) call)
 
 abbrev blindInMotorRun : Hides → Replies
 blindInMotorRun = blindWhere (is 4)
@@ -204,21 +198,7 @@ runningWithBit2 = ready (loads (0 ∷ 4 ∷ drop 2 (settingsWith 0 0))) ++ start
 
 -- ticks with one thing wrong, the command high: gate kill, VdcRaw, VdcFilt too high, too low; the temperature; a low
 abbrev hot : Call
-hot =
-    ticks
-    (record {
-      kill = 0;
-      clear = 0;
-      command = 1;
-      control = 400;
-      raw = 2623;
-      filtered = 2623;
-      temperature = 3501;
-      flux = 2048;
-      torque = pos 0;
-      speed = pos 0;
-      target = pos 700;
-    })
+hot = altered (hiding seen seen seen seen seen (always 3501)) high
 
 abbrev kill : ℕ → Call
 kill clear = tickWith 1 clear 1 400 2623 2623 0 700
@@ -281,5 +261,5 @@ allCaught [] = true
 allCaught (row ∷ rest) = breaksNow (noted (row .0) (row .1)) && allCaught rest
 
 pub each-is-caught : allCaught rows ≡ true
-unfolding log notes stateAfter memoryOf holds gatesRule exitRule faultStanding retryRule retries startTaken beforeStart permitted everLoaded lowSince retrySince computes
+unfolding judges computes
 each-is-caught = refl

@@ -47,7 +47,10 @@ unfolding answer
 refusal-by v next d true e given = absurd (given (rw e))
 refusal-by v next d false e given = rw e
 
-refusal : (v : Verdict) (next d : Drive) → (settle v next d .answer .number ≡ 0 → ⊥) → settle v next d ≡ shown (v .number) (v .place) d
+refusal :
+    (v : Verdict) (next d : Drive)
+    → (settle v next d .answer .number ≡ 0 → ⊥)
+    → settle v next d ≡ shown (v .number) (v .place) d
 refusal v next d given = refusal-by v next d (eqb (v .number) 0) refl given
 
 -- a call that answers another number than 0 leaves the state, and shows it with the number and place of the first row that holds
@@ -112,7 +115,7 @@ settings-moved d t w flags armed Clear = refl
 settings-moved d t w flags armed Retry = refl
 
 settled-settings : (v : Verdict) (next d : Drive) → next .settings ≡ d .settings → settle v next d .drive .settings ≡ d .settings
-settled-settings v next d e = settled (λ (after : Drive) (taken : Bool). after .settings ≡ d .settings) v next d (λ none. e) refl
+settled-settings v next d e = settled (λ (after : Drive). after .settings ≡ d .settings) v next d (λ none. e) refl
 
 pub cycle-keeps-settings : (d : Drive) (c : Cycle) → Calls.cycle d c .drive .settings ≡ d .settings
 unfolding Calls.cycle Calls.cycled

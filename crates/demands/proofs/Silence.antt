@@ -18,9 +18,9 @@ use Rattle.hall.specs.declared.fate.Kept.the-variants.{Pattern}
 use Rattle.states.specs.declared.State.the-variants.{Stop, Fault}
 use Rattle.drive.specs.Flags.{none}
 use Rattle.drive.specs.declared.Drive.{Drive}
-use Rattle.reached.specs.Calls.{machine}
+use Rattle.reached.specs.Machine.{machine}
 use Rattle.demands.proofs.Computes.{computes}
-use Rattle.demands.specs.Calls.{settingsWith, high, clear}
+use Rattle.demands.specs.NamedCalls.{settingsWith, high, clear}
 use Rattle.demands.specs.Silence.{noted, turned, tripped, waited, triedAgain, foremansPage, held}
 use Rattle.demands.specs.Supervised.{words}
 
@@ -166,7 +166,8 @@ ends n = refl
 on-the-page : (past : List Seen)
     → turning past ≡ false
     → length past ≡ 10077
-    → page (two-more (faulted 9999) (recalled 9999) past) ≡ (page past ++ ((10078, retry) ∷ [])) ++ ((10079, start) ∷ (10079, turns) ∷ [])
+    → page (two-more (faulted 9999) (recalled 9999) past)
+    ≡ (page past ++ ((10078, retry) ∷ [])) ++ ((10079, start) ∷ (10079, turns) ∷ [])
 unfolding page computes
 on-the-page past rests many = rw (rests, many)
 

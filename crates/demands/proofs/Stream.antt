@@ -1,4 +1,5 @@
--- A stream is answered in pieces as in one: what a run leaves of its bytes is the front of a record, and more bytes change nothing before it.
+-- A stream is answered in pieces as in one: what a run leaves of its bytes is the front of a record, and more bytes change nothing
+-- before it.
 use mathlib.Core.Path.{_≡_, refl, ap, sym, subst, _∙_}
 use mathlib.Core.Bool.{Bool, true, false}
 use mathlib.Core.List.{List, [], _∷_, _++_, append-assoc, append-nil, flatten}
@@ -22,7 +23,12 @@ use Rattle.demands.proofs.Grown.{Grown, no-byte, no-record, a-part, a-r
 use Rattle.demands.specs.Stream.{inputSize, outputSize, turn, left, stream, inOne, Fit, Each, Roomy}
 
 -- room left after a record of these bytes is room for the others
-roomy-after : (room size : ℕ) (bytes : List ℕ) → 6 ≤ size → size ≤ length bytes → Roomy room bytes → Roomy (room - lineLength) (drop size bytes)
+roomy-after :
+    (room size : ℕ) (bytes : List ℕ)
+    → 6 ≤ size
+    → size ≤ length bytes
+    → Roomy room bytes
+    → Roomy (room - lineLength) (drop size bytes)
 roomy-after room size bytes some all roomy = omega (arith, roomy, length-drop size bytes)
 
 wide : (room : ℕ) (bytes : List ℕ) → Roomy room bytes → lineLength ≤ room
@@ -48,14 +54,19 @@ module _
         ∙ ap (onto (line (reply d r .answer)) (sizeOf r)) (again r some all)
         ∙ sym (one.at-whole fuel closed other bytes d wide-other r is)
 
-    stops : (b : Bool) → closed ≡ b → front bytes ≡ short → runs (suc fuel) closed room bytes d ≡ runs (suc fuel) closed other bytes d
+    stops :
+        (b : Bool) → closed ≡ b → front bytes ≡ short
+        → runs (suc fuel) closed room bytes d ≡ runs (suc fuel) closed other bytes d
     stops true shut is =
         one.at-short-closed fuel closed room bytes d wide-room is shut
         ∙ sym (one.at-short-closed fuel closed other bytes d wide-other is shut)
     stops false waits is =
-        one.at-short-open fuel closed room bytes d wide-room is waits ∙ sym (one.at-short-open fuel closed other bytes d wide-other is waits)
+        one.at-short-open fuel closed room bytes d wide-room is waits
+        ∙ sym (one.at-short-open fuel closed other bytes d wide-other is waits)
 
-    one-more : (f : Front) → View bytes f → front bytes ≡ f → runs (suc fuel) closed room bytes d ≡ runs (suc fuel) closed other bytes d
+    one-more :
+        (f : Front) → View bytes f → front bytes ≡ f
+        → runs (suc fuel) closed room bytes d ≡ runs (suc fuel) closed other bytes d
     one-more end at-end is = one.at-end fuel closed room bytes d wide-room is ∙ sym (one.at-end fuel closed other bytes d wide-other is)
     one-more unknown at-unknown is =
         one.at-unknown fuel closed room bytes d wide-room is ∙ sym (one.at-unknown fuel closed other bytes d wide-other is)
@@ -129,7 +140,9 @@ module _ (closed : Bool) (b : List ℕ) where
   joined-rest a d = onto-none (answers closed (a ++ b) d)
 
   -- a record before an open run
-  joined-onto : (a : List ℕ) (lines : List ℕ) (size : ℕ) (o : Outcome) → onto lines size (joined (drop size a) o) ≡ joined a (onto lines size o)
+  joined-onto :
+      (a : List ℕ) (lines : List ℕ) (size : ℕ) (o : Outcome)
+      → onto lines size (joined (drop size a) o) ≡ joined a (onto lines size o)
   joined-onto a lines size o = go (o .ended) refl
     where
       later : Outcome
@@ -142,7 +155,8 @@ module _ (closed : Bool) (b : List ℕ) where
   module _
       (a : List ℕ) (d : Drive)
       (again : (r : Call) → 6 ≤ sizeOf r → sizeOf r ≤ length a
-      → answers closed (drop (sizeOf r) a ++ b) (reply d r .drive) ≡ joined (drop (sizeOf r) a) (answers false (drop (sizeOf r) a) (reply d r .drive)))
+      → answers closed (drop (sizeOf r) a ++ b) (reply d r .drive)
+      ≡ joined (drop (sizeOf r) a) (answers false (drop (sizeOf r) a) (reply d r .drive)))
     where
       first : (f : Front) → Grown a b f → front a ≡ f → answers closed (a ++ b) d ≡ joined a (answers false a d)
       first end (no-byte none) is = rw (answers-end false a d is) (sym (joined-rest a d))
@@ -170,10 +184,13 @@ module _
     → answers false (drop (sizeOf r) a) (reply d r .drive) .ended ≡ false
     → length (drop (answers false (drop (sizeOf r) a) (reply d r .drive) .taken) (drop (sizeOf r) a)) ≤ 48)
   where
-    few-left : (f : Front) → Grown a [] f → front a ≡ f → answers false a d .ended ≡ false → length (drop (answers false a d .taken) a) ≤ 48
+    few-left :
+        (f : Front) → Grown a [] f → front a ≡ f → answers false a d .ended ≡ false
+        → length (drop (answers false a d .taken) a) ≤ 48
     few-left end (no-byte none) is goes = rw (answers-end false a d is) (omega (arith, none))
     few-left short (a-part few) is goes = rw (answers-short false a d is refl) few
-    few-left unknown (no-record too) is goes = absurd (subst T (sym (ap (λ (o : Outcome). o .ended) (answers-unknown false a d is)) ∙ goes) tt)
+    few-left unknown (no-record too) is goes =
+        absurd (subst T (sym (ap (λ (o : Outcome). o .ended) (answers-unknown false a d is)) ∙ goes) tt)
     few-left (whole _) (a-record r too some all) is goes =
         let whole-is = answers-whole false a d r is some all in
         rw (whole-is, ← drop-drop (answers false (drop (sizeOf r) a) (reply d r .drive) .taken) (sizeOf r) a)
@@ -188,12 +205,21 @@ held-few (suc fuel) a d few =
     (front a) (grown a []) refl
 
 -- the program's lines have room enough
-turned : (bytes : List ℕ) (d : Drive) (closed : Bool) → length bytes ≤ inputSize → run closed outputSize bytes d ≡ answers closed bytes d
+turned :
+    (bytes : List ℕ) (d : Drive) (closed : Bool)
+    → length bytes ≤ inputSize
+    → run closed outputSize bytes d ≡ answers closed bytes d
 turned bytes d closed fits = answered (length bytes) closed bytes d outputSize (omega arith) (omega (arith, fits))
 
 -- while the run goes on, at most 48 bytes are held, so that there is always room to read more
-pub left-few : (bytes : List ℕ) (d : Drive) → length bytes ≤ inputSize → turn bytes d .ended ≡ false → length (left bytes d) ≤ 48
-left-few bytes d fits = subst (λ (o : Outcome). o .ended ≡ false → length (drop (o .taken) bytes) ≤ 48) (sym (turned bytes d false fits)) (held-few (length bytes) bytes d (omega arith))
+pub left-few :
+    (bytes : List ℕ) (d : Drive)
+    → length bytes ≤ inputSize
+    → turn bytes d .ended ≡ false
+    → length (left bytes d) ≤ 48
+left-few bytes d fits =
+    subst (λ (o : Outcome). o .ended ≡ false → length (drop (o .taken) bytes) ≤ 48) (sym (turned bytes d false fits))
+    (held-few (length bytes) bytes d (omega arith))
 
 -- reads of 8,144 bytes and fewer always fit
 pub always-fit : (pieces : List (List ℕ)) (held : List ℕ) (d : Drive) → Each 8144 pieces → length held ≤ 48 → Fit pieces held d

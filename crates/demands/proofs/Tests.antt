@@ -1,18 +1,13 @@
--- Small laws on tests, as the calls of the drive need them.
+-- Small laws on tests of states and commands, as the calls of the drive need them.
 use mathlib.Core.Bool.{Bool, true, false, not, _&&_, _||_}
 use Prim.Native.Nat.{ℕ}
 use native.Mathlib.Omega.{arith}
 use lib.Dec.{T, eqb, not-T, eqb→eq}
 use mir.Facts.{and-yes}
-use Rattle.history.proofs.Bools.{or-cases}
-
-pub fails-left : (a b : Bool) → T (not a) → T (not (a && b))
-fails-left true b t = absurd t
-fails-left false b t = tt
-
-pub fails-right : (a b : Bool) → T (not b) → T (not (a && b))
-fails-right true b t = t
-fails-right false b t = tt
+use lib.Ieee.Bits.{is-true}
+use Rattle.history.proofs.Bools.{or-cases, nor, fails-left, fails-right}
+use Rattle.states.specs.States.{is, turning}
+use Rattle.states.specs.declared.State.{State}
 
 -- nothing is so and not so
 pub never-both : (a : Bool) → T (not (a && not a))
@@ -38,3 +33,23 @@ one-state n high =
 
 pub idle-or-stop : (n : ℕ) → T (eqb n 0 || eqb n 1) → T (not (eqb n 5))
 idle-or-stop n t = or-cases (eqb n 0) (eqb n 1) t (λ zero. rw (eqb→eq n 0 zero) tt) (λ one. rw (eqb→eq n 1 one) tt)
+
+-- what rules the second out is never joined to it
+pub not-both : (a b : Bool) → (T a → T (not b)) → T (not (a && b))
+not-both true b f = f tt
+not-both false b f = tt
+
+-- ---- what the onlooker calls begun, between two states: nothing where the drive stays, and nothing from one running state to the next
+
+abbrev pub begins : State → State → Bool
+begins state onto = turning onto && not (turning state) || is 3 onto && not (is 3 state)
+
+pub begins-nothing : (state : State) → T (not (begins state state))
+begins-nothing state =
+    nor (turning state && not (turning state)) (is 3 state && not (is 3 state)) (never-both (turning state)) (never-both (is 3 state))
+
+pub runs-on : (state onto : State) → T (turning state) → T (not (is 3 onto)) → T (not (begins state onto))
+runs-on state onto runs on =
+    nor (turning onto && not (turning state)) (is 3 onto && not (is 3 state))
+    (fails-right (turning onto) (not (turning state)) (rw (is-true (turning state) runs) tt))
+    (fails-left (is 3 onto) (not (is 3 state)) on)

@@ -10,7 +10,7 @@ use mir.Facts.{and-yes, yes-and}
 use Rattle.history.specs.Onlooker.{Memory, note}
 use Rattle.history.specs.History.{Seen, endsStart}
 use Rattle.history.specs.Laws.{Step}
-use Rattle.history.proofs.Bools.{nor, contrary, never, joins}
+use Rattle.history.proofs.Bools.{fails-left, fails-right, contrary, never, joins}
 use Rattle.history.proofs.Steps
 use Rattle.hall.specs.declared.Hall.{Hall}
 use Rattle.states.specs.States.{numberOf, is, turning}
@@ -34,7 +34,7 @@ use Rattle.moves.specs.declared.Move.the-variants.{Stay, Enter, Measure, Clear,
 use Rattle.reached.proofs.Flags.{stays-with-causes}
 use Rattle.reached.proofs.States.{turns as turning-is}
 use Rattle.demands.specs.Supervised.{words, causeOf, deadCauseOf}
-use Rattle.demands.proofs.Tests.{fails-left, fails-right, never-both, arming, unarmed, one-state}
+use Rattle.demands.proofs.Tests.{never-both, arming, unarmed, one-state, begins, begins-nothing, runs-on}
 use Rattle.demands.proofs.Causes.{found-blocks, found-trips}
 use Rattle.demands.proofs.Shown.{inside, fault-shown, gates-ask, dark, shows-running, shows-turning}
 
@@ -79,21 +79,7 @@ module _ (settings : List ℕ) (hall : Hall) (flags : Flags) (cycles count : ℕ
   abbrev found : Bool
   found = causeOf settings t || deadCauseOf settings (hall .dead)
 
-  -- what begins from one state to another, by their numbers: nothing where it stays, and nothing on the way from one running state on
-  abbrev begins : State → State → Bool
-  begins state onto = turning onto && not (turning state) || is 3 onto && not (is 3 state)
-
-  same : (state : State) → T (not (begins state state))
-  same state =
-      nor (turning state && not (turning state)) (is 3 state && not (is 3 state)) (never-both (turning state)) (never-both (is 3 state))
-
-  onwards : (state onto : State) → T (turning state) → T (not (is 3 onto)) → T (not (begins state onto))
-  onwards state onto runs on =
-      nor (turning onto && not (turning state)) (is 3 onto && not (is 3 state))
-      (fails-right (turning onto) (not (turning state)) (rw (is-true (turning state) runs) tt))
-      (fails-left (is 3 onto) (not (is 3 state)) on)
-
-  -- a tick by which the drive turns, with no low, disturbs nothing
+  -- a tick by which the drive turns, with no low and nothing begun but by a start, ends no start
   goes-on-by :
       (state : State) (after : Drive)
       → T (not (low settings t))
@@ -121,47 +107,37 @@ module _ (settings : List ℕ) (hall : Hall) (flags : Flags) (cycles count : ℕ
   no-cause = contrary found (alight (at Fault) (standing (at Fault) t)) (found-blocks (at Fault) t)
 
   module _ (used-few : used ≤ RetryLimit settings) where
-    -- a tick that leaves the flags as raised: what is left to show of it
-    passes :
+    -- a tick that neither starts nor leaves FAULT, and leaves the flags as raised
+    module _
         (state : State) (after : Drive)
-        → after .retries ≡ used
-        → any (alive after) ≡ tripped state
-        → T (not (noteOf state after .started))
-        → T (not (noteOf state after .began))
-        → T (not (noteOf state after .exited))
-        → T (not (is 0 state))
-        → (T (after .armed) → T (armed || low settings t))
-        → (T (inside after .turning) → T (not (endsStart (noteOf state after)) && inside (at state) .turning))
-        → Obeys state after
-    unfolding answer
-    passes state after same raises no-start none-began no-exit loaded arms turning =
-        Steps.passes-by (inside (at state)) (noteOf state after) (inside after) (gates-ask 0 0 after) (rw same used-few)
-        (fault-shown 0 0 after)
-        (λ cause. rw raises (found-trips (at state) t cause))
-        (λ was keeps. rw raises (kept state was))
-        (dark 0 0 after)
-        tt no-start none-began no-exit
-        (λ now. loaded)
-        arms
-        turning
-        same
+        (same : after .retries ≡ used)
+        (raises : any (alive after) ≡ tripped state)
+        (no-start : T (not (noteOf state after .started)))
+        (none-begun : T (not (noteOf state after .began)))
+        (no-exit : T (not (noteOf state after .exited)))
+        (loaded : T (not (is 0 state)))
+        (arms : T (after .armed) → T (armed || low settings t))
+      where
+        passes :
+            (T (inside after .turning) → T (not (endsStart (noteOf state after)) && inside (at state) .turning))
+            → Obeys state after
+        unfolding answer
+        passes turning =
+            Steps.passes-by (inside (at state)) (noteOf state after) (inside after) (gates-ask 0 0 after) (rw same used-few)
+            (fault-shown 0 0 after)
+            (λ cause. rw raises (found-trips (at state) t cause))
+            (λ was keeps. rw raises (kept state was))
+            (dark 0 0 after)
+            tt no-start none-begun no-exit
+            (λ now. loaded)
+            arms
+            turning
+            same
 
-    -- a tick that neither starts nor leaves FAULT, and after which nothing turns
-    rests :
-        (state : State) (after : Drive)
-        → after .retries ≡ used
-        → any (alive after) ≡ tripped state
-        → T (not (noteOf state after .started))
-        → T (not (noteOf state after .began))
-        → T (not (noteOf state after .exited))
-        → T (not (is 0 state))
-        → (T (after .armed) → T (armed || low settings t))
-        → T (not (turning (after .state)))
-        → Obeys state after
-    unfolding answer
-    rests state after same raises no-start none-began no-exit loaded arms still =
-        passes state after same raises no-start none-began no-exit loaded arms
-        (λ now. never (turning (after .state)) still (and-yes (turning (after .state)) (not (any (alive after))) now .0))
+        -- nothing turns after it
+        rests : T (not (turning (after .state))) → Obeys state after
+        rests still =
+            passes (λ now. never (turning (after .state)) still (and-yes (turning (after .state)) (not (any (alive after))) now .0))
 
     by-move :
         (state : State) (move : Move)
@@ -177,14 +153,15 @@ module _ (settings : List ℕ) (hall : Hall) (flags : Flags) (cycles count : ℕ
         let after = next state Stay in
         passes state after refl refl
         (one-state (numberOf state) (high settings t))
-        (same state)
+        (begins-nothing state)
         (never-both (is 5 state))
         loaded
         (arming armed (low settings t) (not (is 5 state)))
         (λ now.
         let (runs, dim) = and-yes (turning state) (not (tripped state)) now in
         yes-and (not (endsStart (noteOf state after))) (inside (at state) .turning)
-        (goes-on-by state after (quiet runs) (fails-left (begins state state) (not (noteOf state after .started)) (same state)) now)
+        (goes-on-by state after (quiet runs)
+        (fails-left (begins state state) (not (noteOf state after .started)) (begins-nothing state)) now)
         (turned-before state runs dim))
     by-move state (Enter Fault) loaded fault late trip apart (trips free tripping) =
         rests state (next state (Enter Fault)) refl refl tt tt (fails-right (is 5 state) false tt) loaded
@@ -209,7 +186,7 @@ module _ (settings : List ℕ) (hall : Hall) (flags : Flags) (cycles count : ℕ
     by-move state (Enter onto) loaded fault late trip apart (goes-on runs onward no-low calm) =
         let after = next state (Enter onto) in
         let not-first = and-yes (turning onto) (not (is 3 onto)) onward .1 in
-        let none-begun = onwards state onto runs not-first in
+        let none-begun = runs-on state onto runs not-first in
         passes state after refl refl
         (fails-left (is 3 onto && is 1 state) (high settings t) (fails-left (is 3 onto) (is 1 state) not-first))
         none-begun

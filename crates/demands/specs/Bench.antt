@@ -9,7 +9,7 @@ use Rattle.motor.specs.Reference.{target1}
 use Rattle.hall.specs.Sample.{number}
 use Rattle.drive.specs.AnyCall.{loads}
 use Rattle.drive.specs.declared.answer.Answer.{Answer}
-use Rattle.demands.specs.Calls.{settingsWith, loaded, shows, tickWith, highAt, ready, started, times, after, answered}
+use Rattle.demands.specs.NamedCalls.{settingsWith, loaded, shows, tickWith, highAt, ready, started, times, after, answered}
 
 -- two integers are the same
 abbrev pub same : ℤ → ℤ → Bool

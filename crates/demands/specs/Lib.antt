@@ -1,5 +1,5 @@
 pub mod Supervised
-pub mod Calls
+pub mod NamedCalls
 pub mod Bench
 pub mod Silence
 pub mod Stream

@@ -7,8 +7,8 @@ use Rattle.history.specs.Onlooker.{notes}
 use Rattle.history.specs.History.{Seen}
 use Rattle.history.specs.Page.{Mark, load, low, cause, retry, start, turns, stands}
 use Rattle.drive.specs.AnyCall.{Call}
-use Rattle.reached.specs.Calls.{machine}
-use Rattle.demands.specs.Calls.{loadedInMode1, high, over, clear, ready, started, times}
+use Rattle.reached.specs.Machine.{machine}
+use Rattle.demands.specs.NamedCalls.{loadedInMode1, high, over, clear, ready, started, times}
 use Rattle.demands.specs.Supervised.{words}
 
 -- what the onlooker notes of a list of calls, the newest first

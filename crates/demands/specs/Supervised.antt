@@ -13,7 +13,7 @@ use Rattle.numbers.specs.Count.{up}
 use Rattle.history.specs.Log.{log}
 use Rattle.history.specs.Onlooker.{Asked, load, tick, neither, Words, notes}
 use Rattle.history.specs.History.{Demand3}
-use Rattle.reached.specs.Calls.{machine}
+use Rattle.reached.specs.Machine.{machine}
 use Rattle.drive.specs.AnyCall.{Call, loads, cycles, ticks}
 use Rattle.drive.specs.declared.answer.Answer.{Answer}
 use Rattle.fields.specs.declared.Tick.{Tick}

@@ -1,5 +1,5 @@
 -- Tests joined by "and", "or" and "not", taken apart and put together, where the kit has no law of its own (mir.Facts).
-use mathlib.Core.Bool.{Bool, true, false, not, _||_, cond}
+use mathlib.Core.Bool.{Bool, true, false, not, _&&_, _||_, cond}
 use lib.Dec.{T, T-not}
 use mir.Facts.{yes-and}
 
@@ -28,6 +28,14 @@ pub not-not : (a : Bool) → T a → T (not (not a))
 not-not true p = tt
 not-not false p = p
 
+pub fails-left : (a b : Bool) → T (not a) → T (not (a && b))
+fails-left true b p = absurd p
+fails-left false b p = tt
+
+pub fails-right : (a b : Bool) → T (not b) → T (not (a && b))
+fails-right true b p = p
+fails-right false b p = tt
+
 -- what would make another pass fails where that one fails
 pub contrary : (a b : Bool) → (T a → T b) → T (not b) → T (not a)
 contrary true b f q = T-not b q (f tt)
@@ -43,7 +51,11 @@ cases true f g = f tt
 cases false f g = g tt
 
 -- what holds of either branch where it is taken holds of the choice
-pub cond-cases : {A : Type 0} (P : A → Type 0) (test : Bool) (x y : A) → (T test → P x) → (T (not test) → P y) → P (cond test x y)
+pub cond-cases :
+    {A : Type 0} (P : A → Type 0) (test : Bool) (x y : A)
+    → (T test → P x)
+    → (T (not test) → P y)
+    → P (cond test x y)
 cond-cases P true x y f g = f tt
 cond-cases P false x y f g = g tt
 

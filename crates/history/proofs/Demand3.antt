@@ -7,7 +7,9 @@ use lib.Dec.{T, le→leb}
 use mir.Facts.{and-yes}
 use Rattle.history.specs.Log.{Machine, stateAfter, entry, log}
 use Rattle.history.specs.Onlooker.{Words, Memory, memoryOf, note, notes}
-use Rattle.history.specs.History.{Seen, retried, noLoadNorStart, noneOfThese, lowSince, retrySince, everLoaded, permitted, faulted, faultStanding, endsStart, startTaken, beforeStart, gatesRule, exitRule, counted, retries, retryRule, holds, Demand3}
+use Rattle.history.specs.History.{Seen, retried, noLoadNorStart, noneOfThese, lowSince, retrySince, everLoaded, permitted, faulted}
+use Rattle.history.specs.History.{faultStanding, endsStart, startTaken, beforeStart, gatesRule, exitRule, counted, retries}
+use Rattle.history.specs.History.{retryRule, holds, Demand3}
 use Rattle.history.specs.Laws.{Inside, asleep, Step, Lawful}
 use Rattle.history.proofs.Bools.{or-cases, or-not, cond-cases, cases, joins}
 
@@ -94,7 +96,8 @@ module _ {before after : Inside} {call : Seen} {past : List Seen} (law : Step be
   faulted-after =
       follows (call .causeStood) (not (call .loaded || call .exited)) (before .faulted) (after .faulted) (law .cause-faults)
       (λ was keeps. law .fault-stays was keeps)
-      ∙ ap (λ (shown : Bool). call .causeStood || shown || not (call .loaded || call .exited) && before .faulted) (sym (law .fault-shown))
+      ∙ ap (λ (shown : Bool). call .causeStood || shown || not (call .loaded || call .exited) && before .faulted)
+      (sym (law .fault-shown))
       ∙ ap (faulted call) (borne .faulted)
 
   borne-after : Borne after (call ∷ past)

@@ -3,6 +3,7 @@ pub mod Bools
 pub mod Demand3
 pub mod Steps
 pub mod Since
+pub mod Judges
 -- Examples, which nothing cites.
 pub mod Toy
 pub mod Teeth

@@ -1,16 +1,12 @@
 -- "with no live fault .. since it": the rule has no clause of its own for this, because it follows. A start lasts only while the gates
 -- charge or drive, and after each such call the rule itself says that no live fault stands.
-use mathlib.Core.Bool.{Bool, true, false, not, _&&_, _||_}
+use mathlib.Core.Bool.{Bool, not, _&&_, _||_}
 use mathlib.Core.List.{List, [], _∷_}
 use lib.Dec.{T, T-not}
 use mir.Facts.{and-yes, yes-and, or-no}
-use Rattle.history.specs.History.{Seen, since, faultStanding, endsStart, startTaken, permitted, beforeStart, gatesRule, exitRule, retryRule, holds}
-use Rattle.history.proofs.Bools.{or-cases, cases, joins}
-
--- gates that are off end a start
-fails-right : (a b : Bool) → T (not b) → T (not (a && b))
-fails-right true b t = t
-fails-right false b t = tt
+use Rattle.history.specs.History.{Seen, since, faultStanding, endsStart, startTaken, permitted, beforeStart, gatesRule, exitRule}
+use Rattle.history.specs.History.{retryRule, holds}
+use Rattle.history.proofs.Bools.{or-cases, fails-right, cases, joins}
 
 -- neither a stop nor a live fault, by what came in or by what was shown
 abbrev pub quiet : Seen → Bool

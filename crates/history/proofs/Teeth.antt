@@ -3,10 +3,16 @@
 use mathlib.Core.Path.{_≡_, refl}
 use mathlib.Core.Bool.{Bool, true, false, not, _&&_}
 use mathlib.Core.List.{List, [], _∷_, reverse}
-use Rattle.history.specs.Log.{stateAfter, log}
-use Rattle.history.specs.Onlooker.{memoryOf, notes}
-use Rattle.history.specs.History.{Seen, lowSince, retrySince, everLoaded, permitted, faultStanding, startTaken, beforeStart, gatesRule, exitRule, retries, retryRule, holds}
-use Rattle.history.proofs.Toy.{down, middle, up, fields, Press, loads, ticks, glitch, halt, words, Habit, machine, sound, startsUnarmed, startsInTheMiddle, startsDry, loadKeepsArmed, startKeepsArmed, tripKeepsArmed, armsInFault, wakesInStop, tripsForNothing, leavesAlight, leavesWithCause, leavesInASample, leavesByALoad, waitsOverALoad, retriesAtOnce, retriesUntimed, retriesForEver, raisesItsLimit, storesMore, rests, stopsAtATrip, ignoresLow, ignoresCause, ignoresSamples, drivesWithFault, forgetsFault, drivesInStop, loadsInRun, saysStop, tripsInSilence, nods}
+use Rattle.history.specs.Log.{log}
+use Rattle.history.specs.Onlooker.{notes}
+use Rattle.history.specs.History.{Seen, holds}
+use Rattle.history.proofs.Judges.{judges}
+use Rattle.history.proofs.Toy.{down, middle, up, fields, Press, loads, ticks, glitch, halt, words, Habit, machine, sound}
+use Rattle.history.proofs.Toy.{startsUnarmed, startsInTheMiddle, startsDry, loadKeepsArmed, startKeepsArmed, tripKeepsArmed}
+use Rattle.history.proofs.Toy.{armsInFault, wakesInStop, tripsForNothing, leavesAlight, leavesWithCause, leavesInASample}
+use Rattle.history.proofs.Toy.{leavesByALoad, waitsOverALoad, retriesAtOnce, retriesUntimed, retriesForEver, raisesItsLimit}
+use Rattle.history.proofs.Toy.{storesMore, rests, stopsAtATrip, ignoresLow, ignoresCause, ignoresSamples, drivesWithFault}
+use Rattle.history.proofs.Toy.{forgetsFault, drivesInStop, loadsInRun, saysStop, tripsInSilence, nods}
 
 -- ---- calls by name
 
@@ -51,12 +57,12 @@ turnsNow (call ∷ past) = call .turns
 
 -- by a raised command
 turns-by-command : turnsNow (noted sound (plain ∷ low ∷ high ∷ [])) ≡ true
-unfolding log notes stateAfter memoryOf
+unfolding judges
 turns-by-command = refl
 
 -- by a retry, with no low at all
 turns-by-retry : turnsNow (noted sound (once ∷ trip ∷ high ∷ high ∷ high ∷ [])) ≡ true
-unfolding log notes stateAfter memoryOf
+unfolding judges
 turns-by-retry = refl
 
 -- ---- each bad habit breaks the rule
@@ -131,5 +137,5 @@ rows =
     []
 
 pub each-habit-breaks-the-rule : allBreak rows ≡ true
-unfolding log notes stateAfter memoryOf holds gatesRule exitRule faultStanding retryRule retries startTaken beforeStart permitted everLoaded lowSince retrySince
+unfolding judges
 each-habit-breaks-the-rule = refl

@@ -31,7 +31,8 @@ asleep = record { loaded = false; armed = false; faulted = false; turning = fals
 pub record Step (before : Inside) (call : Seen) (after : Inside) : Type 0 where
   pub loaded-by-load : T (after .loaded) → T (before .loaded || call .loaded)
   -- a timed retry arms, and so does a low; load, start and any other exit leave nothing armed
-  pub armed-by-low-or-retry : T (after .armed) → T (retried call && noLoadNorStart call || noneOfThese call && (before .armed || call .low))
+  pub armed-by-low-or-retry :
+      T (after .armed) → T (retried call && noLoadNorStart call || noneOfThese call && (before .armed || call .low))
   pub start-asks : T (call .started) → T (before .loaded && before .armed)
   -- the live word shows the live fault; a live cause makes one, and only a load or an exit from FAULT ends it
   pub fault-shown : call .liveShown ≡ after .faulted

@@ -1,6 +1,6 @@
 -- Power-up has what holds of reached states, and each call keeps it, so every sequence of calls does.
 use mathlib.Core.Path.{refl}
-use mathlib.Core.Bool.{Bool, not}
+use mathlib.Core.Bool.{not}
 use mathlib.Core.List.{List, [], _∷_}
 use Prim.Native.Nat.{ℕ, _≤_}
 use native.Mathlib.Omega.{arith}
@@ -21,7 +21,7 @@ use Rattle.states.specs.declared.State.the-variants.{Stop}
 use Rattle.reached.specs.Reached.{Loaded, Reached}
 use Rattle.drive.specs.AnyCall.{Call, loads, cycles, ticks, reply}
 use Rattle.history.specs.Log.{stateAfter}
-use Rattle.reached.specs.Calls.{machine}
+use Rattle.reached.specs.Machine.{machine}
 use Rattle.reached.proofs.Verdicts.{settled, passed, accepted-settings}
 use Rattle.reached.proofs.Hall.{hall-power-up, sampled-within, dead-flagged}
 use Rattle.reached.proofs.Offsets.{unmeasured-within, summed-within, summed-cycles, summed-measured}
@@ -76,7 +76,7 @@ loaded-reached numbers loaded =
 pub load-keeps : (d : Drive) (numbers : List ℕ) → Reached d → Reached (Drives.load d numbers .drive)
 unfolding Drives.load
 load-keeps d numbers r =
-    settled (λ (after : Drive) (taken : Bool). Reached after) (verdict (loadRows d numbers)) (fresh Stop numbers) d
+    settled Reached (verdict (loadRows d numbers)) (fresh Stop numbers) d
     (λ e. loaded-reached numbers (accepted-settings d numbers e))
     r
 
@@ -112,7 +112,7 @@ cycled-reached d c r outside first second =
 pub cycle-keeps : (d : Drive) (c : Cycle) → Reached d → Reached (Drives.cycle d c .drive)
 unfolding Drives.cycle
 cycle-keeps d c r =
-    settled (λ (after : Drive) (taken : Bool). Reached after) (verdict (cycleRows d c)) (cycled d c) d
+    settled Reached (verdict (cycleRows d c)) (cycled d c) d
     (λ e.
     let p = passed (cycleRows d c) tt e in cycled-reached d c r (p .0) (ltb-no (p .1 .1 .0)) (ltb-no (p .1 .1 .1 .0)))
     r
@@ -120,7 +120,7 @@ cycle-keeps d c r =
 pub tick-keeps : (d : Drive) (t : Tick) → Reached d → Reached (Drives.tick d t .drive)
 unfolding Drives.tick
 tick-keeps d t r =
-    settled (λ (after : Drive) (taken : Bool). Reached after) (verdict (tickRows d t)) (ticked d t) d
+    settled Reached (verdict (tickRows d t)) (ticked d t) d
     (λ e.
     let p = passed (tickRows d t) tt e in
     let fields = p .1 .1 .1 .1 .1 .1 .1 .1 .1 .1 in

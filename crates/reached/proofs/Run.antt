@@ -26,7 +26,9 @@ use Rattle.reached.proofs.Verdicts.{at-least, at-most}
 -- what lies between two numbers is no larger than the larger of them
 small-between : {m : ℕ} (a z b : ℤ) → T (leZ a z) → T (leZ z b) → natAbs a ≤ m → natAbs b ≤ m → natAbs z ≤ m
 small-between {m} =
-    between (λ (z : ℤ). natAbs z ≤ m) (λ n k nearer small. omega (arith, nearer, small)) (λ n k nearer small. omega (arith, nearer, small))
+    between (λ (z : ℤ). natAbs z ≤ m)
+    (λ n k nearer small. omega (arith, nearer, small))
+    (λ n k nearer small. omega (arith, nearer, small))
 
 at-most-as-below : (a b : ℤ) → T (ltZ a b) → T (leZ a b)
 at-most-as-below a b t = below-is-at-most a b (is-true (ltZ a b) t)

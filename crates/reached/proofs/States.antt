@@ -3,7 +3,8 @@ use mathlib.Core.Bool.{_||_, not}
 use lib.Dec.{T}
 use Rattle.states.specs.States.{is, turning}
 use Rattle.states.specs.declared.State.{State}
-use Rattle.states.specs.declared.State.the-variants.{Idle, Stop, OffsetCal, BtsCharge, MotorRun, Fault, CatchSpin, Parking, OpenLoop, AngleSensing}
+use Rattle.states.specs.declared.State.the-variants.{Idle, Stop, OffsetCal, BtsCharge, MotorRun, Fault, CatchSpin, Parking, OpenLoop}
+use Rattle.states.specs.declared.State.the-variants.{AngleSensing}
 
 -- the six starting and running states are none of the others
 pub record Turns (s : State) : Type 0 where

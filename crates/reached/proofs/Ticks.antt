@@ -235,7 +235,8 @@ module _ (d : Drive) (r : Reached d) (t : Tick) (outside : T (not (is 0 (d .stat
       (measured-within (samples (OffsetPsc (d .settings))) (d .offsets) (r .offsets))
       (r .retries)
       (λ live. flagged)
-  moved-reached at speed target (clears free clear) = stopped none (d .offsets) (arms d t) 0 tt (r .offsets) (omega arith) (free-of-dead free)
+  moved-reached at speed target (clears free clear) =
+      stopped none (d .offsets) (arms d t) 0 tt (r .offsets) (omega arith) (free-of-dead free)
   moved-reached at speed target (tries-again free held mode late few) =
       stopped none (d .offsets) true (up (RetryLimit (d .settings)) (d .retries)) tt (r .offsets) (omega arith) (free-of-dead free)
   moved-reached at speed target (stays quiet calm) =

@@ -1,5 +1,5 @@
 -- A refused call leaves the state as it was; an accepted one has passed every row of its table of refusals.
-use mathlib.Core.Path.{_≡_, refl}
+use mathlib.Core.Path.{_≡_}
 use mathlib.Core.Bool.{Bool, true, false, _&&_, _||_, not}
 use mathlib.Core.List.{List, [], _∷_, map}
 use Prim.Native.Nat.{ℕ, zero, suc, _+_, _≤_, _<_}
@@ -7,37 +7,35 @@ use native.Mathlib.Nat.{le-of-suc-le-suc, not-suc-le-zero}
 use native.Mathlib.Omega.{arith}
 use lib.Dec.{T, eqb, leb, ltb, eqb→eq, leb→le, ltb→lt}
 use lib.ListN.{length, getD}
+use lib.Ieee.Bits.{is-false}
 use mir.Facts.{T-not-not, and-yes, eqb-yes}
 use Rattle.numbers.specs.Choose.{pick}
+use Rattle.numbers.proofs.Choices.{by-test}
 use Rattle.numbers.proofs.Table.{at}
 use Rattle.verdicts.specs.Table.{Row, verdict}
 use Rattle.settings.specs.Rules.{rule, related, indices, lowest, highest, settingRow, settingRows}
 use Rattle.states.specs.States.{is}
-use Rattle.drive.specs.Answer.{answer}
+use Rattle.drive.specs.Answer.{reply}
+use Rattle.drive.specs.declared.answer.Reply.{Reply}
 use Rattle.drive.specs.Refusals.{loadRows}
 use Rattle.drive.specs.Calls.{settle}
 use Rattle.drive.specs.declared.Drive.{Drive}
 use Rattle.verdicts.specs.declared.Verdict.{Verdict}
 use Rattle.reached.specs.Reached.{Loaded}
 
-settled-by :
-    (P : Drive → Bool → Type 0) (v : Verdict) (next d : Drive) (none : Bool)
-    → eqb (v .number) 0 ≡ none
-    → (T none → P next true)
-    → P d false
-    → P (settle v next d .drive) (eqb (settle v next d .answer .number) 0)
-unfolding answer
-settled-by P v next d true e accepted refused = rw e (accepted tt)
-settled-by P v next d false e accepted refused = rw e (rw e refused)
+-- a call that settles by its verdict: what holds of its reply if it is accepted, and if it is refused, holds of it
+pub settles :
+    (P : Reply → Type 0) (v : Verdict) (next d : Drive)
+    → (v .number ≡ 0 → P (reply 0 0 next))
+    → (eqb (v .number) 0 ≡ false → P (reply (v .number) (v .place) d))
+    → P (settle v next d)
+settles P v next d accepted refused =
+    by-test P (eqb (v .number) 0) (λ t. accepted (eqb-yes t)) (λ t. refused (is-false (eqb (v .number) 0) t))
 
--- a call that settles by its verdict: accepted it leaves the next state, refused the one before, and its number says which
+-- so of the state that it leaves
 pub settled :
-    (P : Drive → Bool → Type 0) (v : Verdict) (next d : Drive)
-    → (v .number ≡ 0 → P next true)
-    → P d false
-    → P (settle v next d .drive) (eqb (settle v next d .answer .number) 0)
-settled P v next d accepted refused =
-    settled-by P v next d (eqb (v .number) 0) refl (λ t. accepted (eqb-yes t)) refused
+    (P : Drive → Type 0) (v : Verdict) (next d : Drive) → (v .number ≡ 0 → P next) → P d → P (settle v next d .drive)
+settled P v next d accepted refused = settles (λ (r : Reply). P (r .drive)) v next d accepted (λ number. refused)
 
 -- no row of the table holds
 abbrev pub Passed : List Row → Type 0
@@ -81,7 +79,10 @@ place-at : (k : ℕ) → k < 24 → getD indices k 0 ≡ k
 place-at k h = eqb→eq (getD indices k 0) k (at (λ i x. eqb x i) indices 0 tt k h)
 
 -- an accepted load was made in IDLE or STOP, and its settings keep their rules
-pub accepted-state : (d : Drive) (numbers : List ℕ) → verdict (loadRows d numbers) .number ≡ 0 → T (is 0 (d .state) || is 1 (d .state))
+pub accepted-state :
+    (d : Drive) (numbers : List ℕ)
+    → verdict (loadRows d numbers) .number ≡ 0
+    → T (is 0 (d .state) || is 1 (d .state))
 unfolding settingRows
 accepted-state d numbers e = T-not-not (is 0 (d .state) || is 1 (d .state)) (passed (loadRows d numbers) tt e .0)
 

@@ -13,7 +13,8 @@ use Rattle.history.specs.History.{Demand3}
 use Rattle.history.specs.Laws.{Inside, Step, Lawful}
 use Rattle.history.proofs.Bools.{joins}
 use Rattle.history.proofs.Demand3.{demand3}
-use Rattle.history.proofs.Toy.{Spot, idle, stop, run, fault, Toy, toy, Lever, down, middle, up, fields, Press, loads, ticks, glitch, halt, numbers, words, sound, machine, next, turns}
+use Rattle.history.proofs.Toy.{Spot, idle, stop, run, fault, Toy, toy, Lever, down, middle, up, fields, Press, loads, ticks, glitch, halt}
+use Rattle.history.proofs.Toy.{numbers, words, sound, machine, next, turns}
 
 abbrev wasLoaded : Spot → Bool
 wasLoaded idle = false

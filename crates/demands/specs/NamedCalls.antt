@@ -9,7 +9,7 @@ use Rattle.drive.specs.Calls.{powerUp}
 use Rattle.drive.specs.AnyCall.{Call, loads, cycles, ticks}
 use Rattle.drive.specs.declared.Drive.{Drive}
 use Rattle.drive.specs.declared.answer.Answer.{Answer}
-use Rattle.reached.specs.Calls.{machine}
+use Rattle.reached.specs.Machine.{machine}
 
 -- the settings of the paper's example, with this ControlMode and HallAngleOffset
 abbrev pub settingsWith : ℕ → ℕ → List ℕ
