@@ -5,7 +5,7 @@ use mathlib.Core.Bool.{Bool, true, false}
 use mathlib.Core.List.{List}
 use mathlib.Core.Logic.{_⊎_, inl, inr}
 use Prim.Native.Nat.{ℕ, zero, suc}
-use lib.Dec.{eqb, ltb}
+use lib.Dec.{ltb}
 use lib.ListN.{length, drop}
 use lib.Seq.{drop-at}
 use borrow.Author.Tests.{ne-eqb}
@@ -18,6 +18,7 @@ use Rattle.drive.specs.Calls.{settle}
 use Rattle.drive.specs.AnyCall.{Call, loads, cycles, ticks, reply}
 use Rattle.drive.specs.declared.Drive.{Drive}
 use Rattle.drive.specs.declared.answer.Answer.{Answer}
+use Rattle.drive.specs.declared.answer.Reply.{Reply}
 use Rattle.fields.specs.declared.Cycle.{Cycle}
 use Rattle.fields.specs.declared.Tick.{Tick}
 use Rattle.drive.specs.declared.flags.Flags.{Flags}
@@ -30,7 +31,7 @@ use Rattle.report.specs.Line.{line, written}
 use Rattle.report.proofs.Fields.{length-line}
 use Rattle.records.specs.Front.{Front, end, unknown, short, whole, front}
 use Rattle.records.specs.Run.{Outcome, rest, refused, follow, runs, told as ranOf, written as ranWritten}
-use Rattle.reached.proofs.Verdicts.{settled}
+use Rattle.reached.proofs.Verdicts.{settles, settled}
 
 -- the table of refusals of a call
 abbrev pub rows : Drive → Call → List Row
@@ -38,20 +39,15 @@ rows d (loads numbers) = loadRows d numbers
 rows d (cycles fields) = cycleRows d fields
 rows d (ticks fields) = tickRows d fields
 
-refusal-by :
-    (v : Verdict) (next d : Drive) (none : Bool)
-    → eqb (v .number) 0 ≡ none
-    → (settle v next d .answer .number ≡ 0 → ⊥)
-    → settle v next d ≡ shown (v .number) (v .place) d
-unfolding answer
-refusal-by v next d true e given = absurd (given (rw e))
-refusal-by v next d false e given = rw e
-
 refusal :
     (v : Verdict) (next d : Drive)
     → (settle v next d .answer .number ≡ 0 → ⊥)
     → settle v next d ≡ shown (v .number) (v .place) d
-refusal v next d given = refusal-by v next d (eqb (v .number) 0) refl given
+unfolding answer
+refusal v next d =
+    settles (λ (r : Reply). (r .answer .number ≡ 0 → ⊥) → r ≡ shown (v .number) (v .place) d) v next d
+    (λ none given. absurd (given refl))
+    (λ refused given. refl)
 
 -- a call that answers another number than 0 leaves the state, and shows it with the number and place of the first row that holds
 pub refused-unchanged :
