@@ -1,8 +1,8 @@
 -- Document 01, "What the supervisor covers" and "Gates": what an answer shows of the state.
+use mathlib.Core.Bool.{cond}
 use Prim.Native.Nat.{ℕ}
 use lib.IntN.{ℤ, pos}
 use lib.Signed.{quotZ}
-use Rattle.numbers.specs.Choose.{pick}
 use Rattle.numbers.specs.Limit.{limit}
 use Rattle.states.specs.States.{numberOf, is, turning}
 use Rattle.settings.specs.Settings.{FaultEnable}
@@ -15,11 +15,11 @@ use Rattle.drive.specs.declared.answer.Reply.{Reply}
 
 -- "3 gives charge (1); 4, 6, 7, 8, 9 give drive (2); others off"
 abbrev pub gateOf : State → ℕ
-gateOf state = pick (is 3 state) 1 (pick (turning state) 2 0)
+gateOf state = cond (is 3 state) 1 (cond (turning state) 2 0)
 
 -- "live bit 0, off (0); else live bit 1, all low sides on (3); else any live flag, off; else .."
 abbrev pub gate : State → Flags → ℕ
-gate state alive = pick (alive .kill) 0 (pick (alive .critical) 3 (pick (any alive) 0 (gateOf state)))
+gate state alive = cond (alive .kill) 0 (cond (alive .critical) 3 (cond (any alive) 0 (gateOf state)))
 
 -- the flags of the drive that are live; "The live word" is theirs
 abbrev pub alive : Drive → Flags

@@ -1,12 +1,11 @@
 -- Document 01: the three calls that change the state. "Each hands the next drive state back beside its answer".
 use Prim.Native.Nat.{ℕ}
-use mathlib.Core.Bool.{Bool, true, false, _&&_, _||_, not}
+use mathlib.Core.Bool.{Bool, true, false, _&&_, _||_, not, cond}
 use mathlib.Core.List.{List}
 use lib.Dec.{eqb, ltb}
 use lib.ListN.{replicate}
 use mir.Syntax.{w16}
 use mir.Val.{toZ}
-use Rattle.numbers.specs.Choose.{pick}
 use Rattle.numbers.specs.Count.{up}
 use Rattle.hall.specs.Sample.{sampled, poweredUp}
 use Rattle.hall.specs.declared.Sampled.{Sampled}
@@ -59,7 +58,7 @@ powerUp = fresh Idle (replicate 24 0)
 
 -- "A refusal changes no state ..; its other fields show the unchanged state."
 abbrev pub settle : Verdict → Drive → Drive → Reply
-settle v next d = pick (eqb (v .number) 0) (reply 0 0 next) (reply (v .number) (v .place) d)
+settle v next d = cond (eqb (v .number) 0) (reply 0 0 next) (reply (v .number) (v .place) d)
 
 -- "An accepted load gives STOP and clears everything else to power-up values"; "keeps its 24 settings as loaded"
 unfoldable pub load : Drive → List ℕ → Reply
@@ -72,7 +71,7 @@ sample d c = sampled (d .hall) (c .pattern) (toZ w16 (HallAngleOffset (d .settin
 -- "In OFFSETCAL the first N = 2^(13 - OffsetPsc) add their samples to two sums."
 abbrev pub summed : Drive → Cycle → Offsets
 summed d c =
-    pick (is 2 (d .state) && ltb (d .cycles) (samples (OffsetPsc (d .settings))))
+    cond (is 2 (d .state) && ltb (d .cycles) (samples (OffsetPsc (d .settings))))
     (added (c .first) (c .second) (d .offsets))
     (d .offsets)
 
@@ -115,7 +114,7 @@ arrive d state flags offsets run armed retries =
 abbrev pub entered : Drive → Tick → Watched → Flags → Bool → State → Drive
 entered d t w flags armed state =
     arrive d state flags
-    (pick (is 2 state) (cleared (d .offsets)) (d .offsets))
+    (cond (is 2 state) (cleared (d .offsets)) (d .offsets))
     (after (d .settings) t w false (is 4 state) (d .run))
     (armed && not (is 3 state || is 5 state))
     (d .retries)

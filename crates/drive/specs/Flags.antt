@@ -1,8 +1,7 @@
 -- Document 01, "Causes": the flags, those of them that are live, and the word of 16 bits.
 use Prim.Native.Nat.{ℕ, _+_, _/_, _%_, _^_}
-use mathlib.Core.Bool.{Bool, false, _&&_, _||_}
+use mathlib.Core.Bool.{Bool, false, _&&_, _||_, cond}
 use lib.Dec.{eqb}
-use Rattle.numbers.specs.Choose.{pick}
 use Rattle.drive.specs.declared.flags.Flags.{Flags}
 
 abbrev pub none : Flags
@@ -73,7 +72,7 @@ any f = f .kill || f .critical || f .over || f .under || f .flux || f .heat || f
 -- the word: bit k is 1 where the flag of cause k is set
 abbrev pub word : Flags → ℕ
 word f =
-    pick (f .kill) (2 ^ 0) 0 + pick (f .critical) (2 ^ 1) 0 + pick (f .over) (2 ^ 2) 0 + pick (f .under) (2 ^ 3) 0
-    + (pick (f .flux) (2 ^ 4) 0 + pick (f .heat) (2 ^ 6) 0 + pick (f .lock) (2 ^ 7) 0)
-    + pick (f .timeout) (2 ^ 14) 0
-    + pick (f .hall) (2 ^ 15) 0
+    cond (f .kill) (2 ^ 0) 0 + cond (f .critical) (2 ^ 1) 0 + cond (f .over) (2 ^ 2) 0 + cond (f .under) (2 ^ 3) 0
+    + (cond (f .flux) (2 ^ 4) 0 + cond (f .heat) (2 ^ 6) 0 + cond (f .lock) (2 ^ 7) 0)
+    + cond (f .timeout) (2 ^ 14) 0
+    + cond (f .hall) (2 ^ 15) 0

@@ -15,9 +15,9 @@ use settings::HALL_ANGLE_OFFSET;
 use settings::OFFSET_PSC;
 use settings::samples;
 use states::State;
+ghost use mathlib.Core.Bool.{cond};
 ghost use mathlib.Core.Path.{_≡_};
 ghost use lib.ListN.{length};
-ghost use Rattle.numbers.specs.Choose.{pick};
 ghost use Rattle.drive.specs.Calls.{fresh, powerUp, load, summed, cycled, cycle};
 
 fn fresh(state: State, settings: [u16; 24]) -> Drive
@@ -52,7 +52,7 @@ fn copied(numbers: &[u16]) -> [u16; 24]
 }
 
 pub(crate) fn pick_offsets(test: bool, yes: Offsets, no: Offsets) -> Offsets
-    ensures { λ r. ⌜ r ≡ pick test yes no ⌝ }
+    ensures { λ r. ⌜ r ≡ cond test yes no ⌝ }
 {
     if test { yes } else { no }
 }

@@ -1,8 +1,8 @@
 // The flags of the fault word. Only these nine of its sixteen bits are ever set.
 
+ghost use mathlib.Core.Bool.{cond};
 ghost use mathlib.Core.Path.{_≡_};
 ghost use Prim.Native.Nat.{_≤_};
-ghost use Rattle.numbers.specs.Choose.{pick};
 ghost use Rattle.drive.specs.Flags.{either, live, withHall, any, word};
 
 pub struct Flags {
@@ -116,7 +116,7 @@ impl Flags {
 }
 
 fn bit(set: bool, weight: u16) -> u16
-    ensures value { λ r. ⌜ r ≡ pick set weight 0 ⌝ }
+    ensures value { λ r. ⌜ r ≡ cond set weight 0 ⌝ }
     ensures bound { λ r. ⌜ r ≤ weight ⌝ }
 {
     if set { weight } else { 0 }

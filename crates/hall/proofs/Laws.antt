@@ -1,6 +1,6 @@
 -- Laws of the definitions, proved once: a step and the step back, a full turn, what the angle after a step depends on, and the offset's sign.
 use mathlib.Core.Path.{_≡_, refl, sym, ap, _∙_, subst}
-use mathlib.Core.Bool.{Bool, true, false}
+use mathlib.Core.Bool.{Bool, true, false, cond}
 use mathlib.Core.List.{List, [], _∷_}
 use Prim.Native.Nat.{ℕ, zero, suc, _+_, _<_, _%_, _^_, _*_, _/_}
 use native.Mathlib.Omega.{arith}
@@ -10,7 +10,6 @@ use mir.Syntax.{w16}
 use mir.Val.{SFits, ofZ}
 use mir.Facts.{toZ-ofZ, sfits-toZ}
 use borrow.Author.Tests.{eqb-true}
-use Rattle.numbers.specs.Choose.{pick}
 use Rattle.hall.specs.Fate.{clockwise, among, next, fate, beside}
 use Rattle.hall.specs.Angle.{twelfth, withOffset, boundaryWith, modulo}
 use Rattle.hall.specs.Sample.{sampled, after, number, plusOne, minusOne}
@@ -41,7 +40,7 @@ module _ (P : ℕ → Type 0) where
     where
       go : (test : Bool) → eqb p x ≡ test → (T (among rest p) → P p) → P p
       go true e later = subst P (sym (eqb-true p x e)) (holds .0)
-      go false e later = later (subst (λ (b : Bool). T (pick b true (among rest p))) e stands)
+      go false e later = later (subst (λ (b : Bool). T (cond b true (among rest p))) e stands)
 
 -- the next pattern clockwise is a step forward, and from there the old one a step back
 Steps : ℕ → Type 0

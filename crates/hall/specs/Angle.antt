@@ -1,11 +1,11 @@
 -- Document 01, "Cycle": "The angle uses the twelve angles of the table below".
+use mathlib.Core.Bool.{cond}
 use Prim.Native.Nat.{ℕ, _%_, _-_, _*_, _/_}
 use mathlib.Core.List.{List, [], _∷_}
 use lib.Dec.{eqb}
 use lib.IntN.{ℤ, pos, negsuc, negℤ, _+ℤ_}
 use mir.Syntax.{w16}
 use mir.Val.{toZ}
-use Rattle.numbers.specs.Choose.{pick}
 use Rattle.hall.specs.Fate.{clockwise}
 use Rattle.hall.specs.declared.angle.Sector.{Sector}
 
@@ -31,7 +31,7 @@ boundaries = 0 ∷ 2 ∷ 4 ∷ 6 ∷ 8 ∷ 10 ∷ []
 abbrev pub under : List ℕ → List ℕ → ℕ → ℕ
 under [] row p = 0
 under (x ∷ order) [] p = 0
-under (x ∷ order) (k ∷ row) p = pick (eqb p x) k (under order row p)
+under (x ∷ order) (k ∷ row) p = cond (eqb p x) k (under order row p)
 
 -- a pattern's sector: its middle, and the boundary from it to the next sector clockwise
 unfoldable pub sectorOf : ℕ → Sector

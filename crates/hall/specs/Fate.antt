@@ -1,9 +1,8 @@
 -- Document 01, "Cycle": "Clockwise order is 1, 3, 2, 6, 4, 5, then 1. Each pattern from 0 to 7 falls in one group against the kept pattern".
 use Prim.Native.Nat.{ℕ}
-use mathlib.Core.Bool.{Bool, true, false}
+use mathlib.Core.Bool.{Bool, true, false, cond}
 use mathlib.Core.List.{List, [], _∷_, reverse}
 use lib.Dec.{eqb}
-use Rattle.numbers.specs.Choose.{pick}
 use Rattle.hall.specs.declared.fate.Fate.{Fate}
 use Rattle.hall.specs.declared.fate.Fate.the-variants.{Dead, First, Same, Forward, Back, Stray}
 use Rattle.hall.specs.declared.fate.Kept.{Kept}
@@ -16,13 +15,13 @@ clockwise = 1 ∷ 3 ∷ 2 ∷ 6 ∷ 4 ∷ 5 ∷ []
 -- the pattern stands in the order
 abbrev pub among : List ℕ → ℕ → Bool
 among [] p = false
-among (x ∷ rest) p = pick (eqb p x) true (among rest p)
+among (x ∷ rest) p = cond (eqb p x) true (among rest p)
 
 -- what stands after the pattern in the order, whose last is followed by `first`
 abbrev pub after : ℕ → List ℕ → ℕ → ℕ
 after first [] p = p
 after first (x ∷ []) p = first
-after first (x ∷ y ∷ rest) p = pick (eqb p x) y (after first (y ∷ rest) p)
+after first (x ∷ y ∷ rest) p = cond (eqb p x) y (after first (y ∷ rest) p)
 
 -- "Next or previous" of a pattern
 abbrev pub next : ℕ → ℕ
@@ -34,8 +33,8 @@ previous p = after 5 (reverse clockwise) p
 -- a pattern of 1..6 and the two beside it: "with none kept"; "Same as kept"; it is the next of the kept one, or the previous; "Another of 1..6"
 unfoldable pub beside : ℕ → ℕ → ℕ → Kept → Fate
 beside behind p ahead Nothing = First
-beside behind p ahead (Pattern k) = pick (eqb k p) Same (pick (eqb k behind) Forward (pick (eqb k ahead) Back Stray))
+beside behind p ahead (Pattern k) = cond (eqb k p) Same (cond (eqb k behind) Forward (cond (eqb k ahead) Back Stray))
 
 -- "Each pattern from 0 to 7 falls in one group": "0 or 7", which are not in the order, is dead
 unfoldable pub fate : ℕ → Kept → Fate
-fate p kept = pick (among clockwise p) (beside (previous p) p (next p) kept) Dead
+fate p kept = cond (among clockwise p) (beside (previous p) p (next p) kept) Dead

@@ -1,10 +1,9 @@
 -- Document 01, "Cycle": what each group of a sample does to the Hall part of the state.
 use Prim.Native.Nat.{ℕ, _+_, _-_, _%_, _^_}
-use mathlib.Core.Bool.{Bool, false}
+use mathlib.Core.Bool.{Bool, false, cond}
 use lib.Dec.{eqb}
 use lib.IntN.{ℤ, pos}
 use Rattle.numbers.specs.Count.{up}
-use Rattle.numbers.specs.Choose.{pick}
 use Rattle.hall.specs.Fate.{fate}
 use Rattle.hall.specs.Angle.{middleWith, boundaryWith}
 use Rattle.hall.specs.declared.Hall.{Hall}
@@ -61,14 +60,14 @@ unfoldable pub deadSample : Hall → Sampled
 deadSample hall =
     let dead : ℕ = up 2 (hall .dead) in
     let at2 : Bool = eqb dead 2 in
-    rests hall Dead (pick at2 Nothing (hall .kept)) dead 0 at2
+    rests hall Dead (cond at2 Nothing (hall .kept)) dead 0 at2
 
 -- "Another of 1..6: stray streak up, dead streak zero. At 3, flag 15 is set, the pattern is forgotten and the stray streak returns to zero."
 unfoldable pub straySample : Hall → Sampled
 straySample hall =
     let stray : ℕ = up 3 (hall .stray) in
     let at3 : Bool = eqb stray 3 in
-    rests hall Stray (pick at3 Nothing (hall .kept)) 0 (pick at3 0 stray) at3
+    rests hall Stray (cond at3 Nothing (hall .kept)) 0 (cond at3 0 stray) at3
 
 -- the five groups, two of them steps
 abbrev pub after : Hall → ℕ → ℤ → Fate → Sampled

@@ -1,10 +1,9 @@
 -- Document 01, "Causes": what bits 4, 7 and 14 count in MOTORRUN.
 use Prim.Native.Nat.{ℕ, _*_, _/_}
-use mathlib.Core.Bool.{Bool, false, _&&_, _||_, not}
+use mathlib.Core.Bool.{Bool, false, _&&_, _||_, not, cond}
 use mathlib.Core.List.{List}
 use lib.Dec.{eqb, ltb, leb}
 use lib.IntN.{pos, natAbs}
-use Rattle.numbers.specs.Choose.{pick}
 use Rattle.numbers.specs.Count.{up}
 use Rattle.settings.specs.Settings.{FluxFaultTime, RotorLockTime, HallTimeoutPeriod, MinSpd, MotorLim}
 use Rattle.fields.specs.declared.Tick.{Tick}
@@ -32,9 +31,9 @@ ends length s = eqb (up length (s .ticks)) length
 abbrev pub nextSlots : ℕ → Bool → Slots → Slots
 nextSlots length badTick s =
     record {
-      ticks = pick (ends length s) 0 (up length (s .ticks));
+      ticks = cond (ends length s) 0 (up length (s .ticks));
       bad = (s .bad || badTick) && not (ends length s);
-      row = pick (ends length s) (pick (s .bad || badTick) (up 8 (s .row)) 0) (s .row);
+      row = cond (ends length s) (cond (s .bad || badTick) (up 8 (s .row)) 0) (s .row);
     }
 
 -- "It stands at the end of the eighth consecutive bad slot, and of each bad one following."
@@ -43,7 +42,7 @@ fluxStands length badTick s = ends length s && (s .bad || badTick) && eqb (up 8 
 
 -- a condition "for [limit] consecutive ticks, and while this goes on": the count, and whether it stands
 abbrev pub lasting : ℕ → Bool → ℕ → ℕ
-lasting limit holds count = pick holds (up limit count) 0
+lasting limit holds count = cond holds (up limit count) 0
 
 abbrev pub lasts : ℕ → Bool → ℕ → Bool
 lasts limit holds count = holds && eqb (up limit count) limit

@@ -1,11 +1,10 @@
 -- How the move of a tick comes about: what each way to choose a move tells of what it is decided by.
-use mathlib.Core.Bool.{Bool, true, false, _&&_, _||_, not}
+use mathlib.Core.Bool.{Bool, true, false, _&&_, _||_, not, cond}
 use Prim.Native.Nat.{_*_, _≤_, _<_}
 use lib.Dec.{T, eqb, ltb, leb}
 use lib.IntN.{natAbs}
 use mir.Facts.{T-not-not, and-yes, leb-yes, ltb-yes}
-use Rattle.numbers.specs.Choose.{pick}
-use Rattle.numbers.proofs.Choices.{by-test}
+use Rattle.numbers.proofs.Tests.{by-test}
 use Rattle.settings.specs.Settings
 use Rattle.states.specs.States.{is, turning}
 use Rattle.states.specs.declared.State.{State}
@@ -62,7 +61,7 @@ module _ (g : Grounds) where
       → T (not (is 5 s))
       → T (turning s)
       → Own s move
-      → Way g s (pick (g .tripped) (Enter Fault) (pick (g .low) (Enter Stop) move))
+      → Way g s (cond (g .tripped) (Enter Fault) (cond (g .low) (Enter Stop) move))
   from-turning s outside turns own =
       by-test (Way g s) (g .tripped) (λ u. trips outside u)
       (λ calm. by-test (Way g s) (g .low) (λ u. stops turns u calm) (λ quiet. own quiet calm))
@@ -74,13 +73,13 @@ module _ (g : Grounds) where
   enters s next turns onward quiet calm = goes-on turns onward quiet calm
 
   -- the tests by which a state's own move is chosen do not matter here
-  either-own : (s : State) (test : Bool) {a b : Move} → Own s a → Own s b → Own s (pick test a b)
+  either-own : (s : State) (test : Bool) {a b : Move} → Own s a → Own s b → Own s (cond test a b)
   either-own s true one other = one
   either-own s false one other = other
 
   way-from :
       (s : State)
-      → Way g s (pick (not (is 5 s) && g .tripped) (Enter Fault) (pick (turning s && g .low) (Enter Stop) (own g s)))
+      → Way g s (cond (not (is 5 s) && g .tripped) (Enter Fault) (cond (turning s && g .low) (Enter Stop) (own g s)))
   way-from Idle = by-test (Way g Idle) (g .tripped) (λ u. trips tt u) (λ calm. stays (λ u. absurd u) (λ u. calm))
   way-from Stop =
       by-test (Way g Stop) (g .tripped) (λ u. trips tt u)

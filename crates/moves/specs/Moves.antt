@@ -1,10 +1,9 @@
 -- Document 01, "Move": "One at most per tick, by the state before it."
 use Prim.Native.Nat.{ℕ, _*_}
-use mathlib.Core.Bool.{Bool, _&&_, _||_, not}
+use mathlib.Core.Bool.{Bool, _&&_, _||_, not, cond}
 use mathlib.Core.List.{List}
 use lib.Dec.{eqb, ltb, leb}
 use lib.IntN.{natAbs}
-use Rattle.numbers.specs.Choose.{pick}
 use Rattle.settings.specs.Settings
 use Rattle.states.specs.States.{is, turning}
 use Rattle.states.specs.declared.State.{State}
@@ -15,45 +14,45 @@ use Rattle.moves.specs.declared.Move.the-variants.{Stay, Enter, Measure,
 
 -- "1 STOP: offsets not measured, to 2; else armed and high, to 3 (the start)."
 abbrev pub fromStop : Bool → Bool → Bool → Move
-fromStop measured armed high = pick (not measured) (Enter OffsetCal) (pick (armed && high) (Enter BtsCharge) Stay)
+fromStop measured armed high = cond (not measured) (Enter OffsetCal) (cond (armed && high) (Enter BtsCharge) Stay)
 
 -- "2 OFFSETCAL: N cycles done, to 1; [..]"
 abbrev pub fromOffsetCal : List ℕ → ℕ → Move
-fromOffsetCal s cycles = pick (leb (Settings.samples (Settings.OffsetPsc s)) cycles) Measure Stay
+fromOffsetCal s cycles = cond (leb (Settings.samples (Settings.OffsetPsc s)) cycles) Measure Stay
 
 -- "3 BTSCHARGE: BtsChargeTime cycles done, to 6."
 abbrev pub fromBtsCharge : List ℕ → ℕ → Move
-fromBtsCharge s cycles = pick (leb (Settings.BtsChargeTime s) cycles) (Enter CatchSpin) Stay
+fromBtsCharge s cycles = cond (leb (Settings.BtsChargeTime s) cycles) (Enter CatchSpin) Stay
 
 -- "6 CATCHSPIN: TCatchSpin 0, to 9. Else at its TCatchSpin-th tick: absolute speed above DirectStartThr, to 4, otherwise to 9."
 abbrev pub fromCatchSpin : List ℕ → ℕ → ℕ → Move
 fromCatchSpin s nth absoluteSpeed =
-    pick (eqb (Settings.TCatchSpin s) 0) (Enter AngleSensing)
-    (pick (leb (Settings.TCatchSpin s) nth)
-    (pick (ltb (Settings.DirectStartThr s) absoluteSpeed) (Enter MotorRun) (Enter AngleSensing))
+    cond (eqb (Settings.TCatchSpin s) 0) (Enter AngleSensing)
+    (cond (leb (Settings.TCatchSpin s) nth)
+    (cond (ltb (Settings.DirectStartThr s) absoluteSpeed) (Enter MotorRun) (Enter AngleSensing))
     Stay)
 
 -- "9 ANGLESENSING: IS_Pulses 0, to 7; else 6 x IS_Pulses cycles done, to 4 (house)."
 abbrev pub fromAngleSensing : List ℕ → ℕ → Move
 fromAngleSensing s cycles =
-    pick (eqb (Settings.«IS_Pulses» s) 0) (Enter Parking)
-    (pick (leb (6 * Settings.«IS_Pulses» s) cycles) (Enter MotorRun) Stay)
+    cond (eqb (Settings.«IS_Pulses» s) 0) (Enter Parking)
+    (cond (leb (6 * Settings.«IS_Pulses» s) cycles) (Enter MotorRun) Stay)
 
 -- "7 PARKING: at its ParkTime-th tick, or its first if that is 0, to 8."
 abbrev pub fromParking : List ℕ → ℕ → Move
-fromParking s nth = pick (leb (Settings.ParkTime s) nth) (Enter OpenLoop) Stay
+fromParking s nth = cond (leb (Settings.ParkTime s) nth) (Enter OpenLoop) Stay
 
 -- "8 OPENLOOP: OpenLoopRamp 0, or absolute speed at least MinSpd, to 4."
 abbrev pub fromOpenLoop : List ℕ → ℕ → Move
-fromOpenLoop s absoluteSpeed = pick (eqb (Settings.OpenLoopRamp s) 0 || leb (Settings.MinSpd s) absoluteSpeed) (Enter MotorRun) Stay
+fromOpenLoop s absoluteSpeed = cond (eqb (Settings.OpenLoopRamp s) 0 || leb (Settings.MinSpd s) absoluteSpeed) (Enter MotorRun) Stay
 
 -- "5 FAULT: no live cause may stand. Then clear = 1, in either mode (house), [..] to 1. Else in mode 1, from its 10,000th tick on,
 -- with fewer than RetryLimit retries used: [..] to 1."
 abbrev pub fromFault : List ℕ → ℕ → ℕ → ℕ → Bool → Move
 fromFault s nth retries clear blocked =
-    pick blocked Stay
-    (pick (eqb clear 1) Clear
-    (pick (Settings.mode1 s && leb 10000 nth && ltb retries (Settings.RetryLimit s)) Retry Stay))
+    cond blocked Stay
+    (cond (eqb clear 1) Clear
+    (cond (Settings.mode1 s && leb 10000 nth && ltb retries (Settings.RetryLimit s)) Retry Stay))
 
 -- "Else:" each state's own move; "4 MOTORRUN: stays."; a tick in IDLE is refused
 abbrev pub own : Grounds → State → Move
@@ -72,5 +71,5 @@ own g AngleSensing = fromAngleSensing (g .settings) (g .cycles)
 -- "Outside FAULT, any live flag moves to FAULT. Else, in the six starting and running states (3, 4, 6, 7, 8, 9), a low moves to STOP."
 unfoldable pub moveOf : Grounds → Move
 moveOf g =
-    pick (not (is 5 (g .state)) && g .tripped) (Enter Fault)
-    (pick (turning (g .state) && g .low) (Enter Stop) (own g (g .state)))
+    cond (not (is 5 (g .state)) && g .tripped) (Enter Fault)
+    (cond (turning (g .state) && g .low) (Enter Stop) (own g (g .state)))

@@ -12,9 +12,9 @@ use settings::RETRY_LIMIT;
 use settings::T_CATCH_SPIN;
 use settings::samples;
 use states::State;
+ghost use mathlib.Core.Bool.{cond};
 ghost use mathlib.Core.Path.{_≡_};
 ghost use Prim.Native.Nat.{_*_};
-ghost use Rattle.numbers.specs.Choose.{pick};
 ghost use Rattle.moves.specs.Moves.{fromStop, fromOffsetCal, fromBtsCharge, fromCatchSpin, fromAngleSensing, fromParking, fromOpenLoop, fromFault, own, moveOf};
 
 // What a tick does to the state: stay, enter another, end OFFSETCAL with the offsets measured, or leave FAULT.
@@ -44,7 +44,7 @@ pub struct Grounds {
 }
 
 fn pick_move(test: bool, yes: Move, no: Move) -> Move
-    ensures { λ r. ⌜ r ≡ pick test yes no ⌝ }
+    ensures { λ r. ⌜ r ≡ cond test yes no ⌝ }
 {
     if test { yes } else { no }
 }

@@ -2,7 +2,7 @@
 pub mod Table
 pub mod Sums
 pub mod Order
-pub mod Choices
+pub mod Tests
 pub mod Reply
 -- Of the promises themselves.
 pub mod OneReply

@@ -1,13 +1,12 @@
 -- The length of the bytes is fuel enough: more fuel changes nothing, since each record takes a byte at least.
 use mathlib.Core.Path.{_≡_, refl, ap, sym}
-use mathlib.Core.Bool.{Bool, true, false}
+use mathlib.Core.Bool.{Bool, true, false, cond}
 use mathlib.Core.List.{List}
 use Prim.Native.Nat.{ℕ, zero, suc, _-_, _≤_}
 use native.Mathlib.Omega.{arith}
 use lib.Dec.{ltb}
 use lib.ListN.{length, drop, length-drop}
 use borrow.Author.Tests.{ltb-true, ltb-false}
-use Rattle.numbers.specs.Choose.{pick}
 use Rattle.drive.specs.declared.Drive.{Drive}
 use Rattle.report.specs.Refusals.{lineLength}
 use Rattle.report.specs.Line.{line}
@@ -39,7 +38,7 @@ enough zero zero closed room bytes d few many = refl
 enough zero (suc more) closed room bytes d few many = sym (rests more closed room bytes d few)
 enough (suc fuel) zero closed room bytes d few many = rests fuel closed room bytes d many
 enough (suc fuel) (suc more) closed room bytes d few many =
-    ap (pick (ltb room lineLength) (rest d))
+    ap (cond (ltb room lineLength) (rest d))
     (follow-same closed d (front bytes) _ _
     (λ r. enough fuel more closed (room - lineLength) (drop (sizeOf r) bytes) (reply d r .drive)
     (omega (arith, size-some r, length-drop (sizeOf r) bytes)) (omega (arith, size-some r, length-drop (sizeOf r) bytes))))

@@ -1,13 +1,12 @@
 -- What the reader's answer says of the bytes that it read.
 use mathlib.Core.Path.{_≡_, refl, sym, subst}
-use mathlib.Core.Bool.{Bool, true, false}
+use mathlib.Core.Bool.{Bool, true, false, cond}
 use mathlib.Core.List.{List}
 use Prim.Native.Nat.{ℕ, _+_, _≤_}
 use Prim.Native.Char.{code}
 use lib.Dec.{eqb, ltb}
 use lib.ListN.{length}
 use borrow.Author.Tests.{ltb-false}
-use Rattle.numbers.specs.Choose.{pick}
 use Rattle.drive.specs.AnyCall.{Call as Record, loads as load, cycles as cycle, ticks as tick}
 use Rattle.records.specs.Decoded.{byte, settingsOf, cycleOf, tickOf}
 use Rattle.records.specs.Front.{sizeOf, Front, end, unknown, short, whole, held, front, told}
@@ -23,14 +22,14 @@ pub data View (bytes : List ℕ) : Front → Type 0 where
   at-cycle : 6 ≤ length bytes → View bytes (whole (cycle (cycleOf bytes)))
   at-tick : 20 ≤ length bytes → View bytes (whole (tick (tickOf bytes)))
 
-either : {bytes : List ℕ} (b : Bool) (f g : Front) → View bytes f → View bytes g → View bytes (pick b f g)
+either : {bytes : List ℕ} (b : Bool) (f g : Front) → View bytes f → View bytes g → View bytes (cond b f g)
 either true f g v w = v
 either false f g v w = w
 
 held-view : {bytes : List ℕ} (r : Record) → (sizeOf r ≤ length bytes → View bytes (whole r)) → View bytes (held (length bytes) r)
 held-view {bytes} r v = go (ltb (length bytes) (sizeOf r)) refl
   where
-    go : (b : Bool) → ltb (length bytes) (sizeOf r) ≡ b → View bytes (pick b short (whole r))
+    go : (b : Bool) → ltb (length bytes) (sizeOf r) ≡ b → View bytes (cond b short (whole r))
     go true e = at-short
     go false e = v (ltb-false (length bytes) (sizeOf r) e)
 

@@ -1,13 +1,12 @@
 -- Every answer that the run prints is accepted by the line call where 45 bytes are lent: its number comes from a table whose numbers
 -- are small, its state and its gate from the drive.
 use mathlib.Core.Path.{_≡_}
-use mathlib.Core.Bool.{Bool, true, false, _&&_}
+use mathlib.Core.Bool.{Bool, true, false, _&&_, cond}
 use mathlib.Core.List.{List, [], _∷_}
 use Prim.Native.Nat.{ℕ, _≤_}
 use native.Mathlib.Omega.{arith}
 use lib.Dec.{T, eqb, leb, leb→le}
 use mir.Facts.{and-yes}
-use Rattle.numbers.specs.Choose.{pick}
 use Rattle.states.specs.States.{numberOf, is, turning}
 use Rattle.drive.specs.AnyCall.{Call as Record, loads as aLoad, cycles as aCycle, ticks as aTick, reply as replyTo}
 use Rattle.drive.specs.Flags.{any}
@@ -36,7 +35,7 @@ state-small Parking = omega arith
 state-small OpenLoop = omega arith
 state-small AngleSensing = omega arith
 
-pick-small : (b : Bool) (x y n : ℕ) → x ≤ n → y ≤ n → pick b x y ≤ n
+pick-small : (b : Bool) (x y n : ℕ) → x ≤ n → y ≤ n → cond b x y ≤ n
 pick-small true x y n hx hy = hx
 pick-small false x y n hx hy = hy
 
@@ -66,7 +65,7 @@ verdict-small (r ∷ rows) all = go (r .holds) (verdict-small rows (parts .1))
     parts : T (leb (r .number) 15) × T (small rows)
     parts = and-yes (leb (r .number) 15) (small rows) all
 
-    go : (b : Bool) → verdict rows .number ≤ 15 → pick b (told r) (verdict rows) .number ≤ 15
+    go : (b : Bool) → verdict rows .number ≤ 15 → cond b (told r) (verdict rows) .number ≤ 15
     go true later = leb→le (r .number) 15 (parts .0)
     go false later = later
 
@@ -74,7 +73,7 @@ settle-printed : (v : Verdict) (next d : Drive) (lent : ℕ) → v .number ≤ 1
     → accepts (settle v next d .answer) lent ≡ true
 settle-printed v next d lent number room = go (eqb (v .number) 0)
   where
-    go : (b : Bool) → accepts (pick b (reply 0 0 next) (reply (v .number) (v .place) d) .answer) lent ≡ true
+    go : (b : Bool) → accepts (cond b (reply 0 0 next) (reply (v .number) (v .place) d) .answer) lent ≡ true
     go true = answer-printed 0 0 next lent (omega arith) room
     go false = answer-printed (v .number) (v .place) d lent number room
 

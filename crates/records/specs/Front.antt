@@ -1,10 +1,10 @@
 -- Document 01, "Report line and program": what stands at the front of a list of bytes.
+use mathlib.Core.Bool.{cond}
 use Prim.Native.Nat.{ℕ, _+_}
 use Prim.Native.Char.{code}
 use mathlib.Core.List.{List}
 use lib.Dec.{eqb, ltb}
 use lib.ListN.{length}
-use Rattle.numbers.specs.Choose.{pick}
 use Rattle.drive.specs.AnyCall.{Call, loads, cycles, ticks}
 use Rattle.records.specs.Decoded.{byte, settingsOf, cycleOf, tickOf}
 use Rattle.records.specs.declared.Found.{Found}
@@ -25,17 +25,17 @@ sizeOf (ticks fields) = 20
 
 -- the record, where so many bytes hold all of it
 abbrev pub held : ℕ → Call → Front
-held left r = pick (ltb left (sizeOf r)) short (whole r)
+held left r = cond (ltb left (sizeOf r)) short (whole r)
 
 -- "Program shiftline reads records: L ..; C ..; T .."
 abbrev pub begun : ℕ → ℕ → List ℕ → Front
 begun letter left bytes =
-    pick (eqb letter (code "L")) (held left (loads (settingsOf bytes)))
-    (pick (eqb letter (code "C")) (held left (cycles (cycleOf bytes)))
-    (pick (eqb letter (code "T")) (held left (ticks (tickOf bytes))) unknown))
+    cond (eqb letter (code "L")) (held left (loads (settingsOf bytes)))
+    (cond (eqb letter (code "C")) (held left (cycles (cycleOf bytes)))
+    (cond (eqb letter (code "T")) (held left (ticks (tickOf bytes))) unknown))
 
 unfoldable pub front : List ℕ → Front
-front bytes = pick (eqb (length bytes) 0) end (begun (byte 0 bytes) (length bytes) bytes)
+front bytes = cond (eqb (length bytes) 0) end (begun (byte 0 bytes) (length bytes) bytes)
 
 -- what the reader tells of it: the kind of a whole record, and where the next one starts
 abbrev pub told : ℕ → Front → Found

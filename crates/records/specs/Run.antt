@@ -1,10 +1,9 @@
 -- Document 01, "Report line and program": the run over the bytes that have arrived.
 use Prim.Native.Nat.{ℕ, zero, suc, _+_, _-_}
-use mathlib.Core.Bool.{Bool, true, false}
+use mathlib.Core.Bool.{Bool, true, false, cond}
 use mathlib.Core.List.{List, [], _++_}
 use lib.Dec.{ltb}
 use lib.ListN.{length, drop}
-use Rattle.numbers.specs.Choose.{pick}
 use Rattle.drive.specs.Answer.{answer}
 use Rattle.drive.specs.AnyCall.{Call, reply}
 use Rattle.drive.specs.declared.Drive.{Drive}
@@ -44,14 +43,14 @@ onto lines taken later =
 abbrev pub follow : Bool → Drive → Front → (Call → Outcome) → Outcome
 follow closed d end onward = rest d
 follow closed d unknown onward = refused d
-follow closed d short onward = pick closed (refused d) (rest d)
+follow closed d short onward = cond closed (refused d) (rest d)
 follow closed d (whole r) onward = onto (line (reply d r .answer)) (sizeOf r) (onward r)
 
 -- The run over `bytes` where the output has `room` bytes. Each record takes a byte at least, so the length of `bytes` is fuel enough.
 unfoldable pub runs : ℕ → Bool → ℕ → List ℕ → Drive → Outcome
 runs zero closed room bytes d = rest d
 runs (suc fuel) closed room bytes d =
-    pick (ltb room lineLength) (rest d)
+    cond (ltb room lineLength) (rest d)
     (follow closed d (front bytes)
     (λ (r : Call). runs fuel closed (room - lineLength) (drop (sizeOf r) bytes) (reply d r .drive)))
 

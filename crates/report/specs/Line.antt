@@ -1,9 +1,9 @@
 -- Document 01, "Report line and program": the line of an answer, and what the call leaves in the lent bytes.
+use mathlib.Core.Bool.{cond}
 use Prim.Native.Nat.{ℕ}
 use Prim.Native.String.{String}
 use mathlib.Core.List.{List, [], _∷_, _++_}
 use lib.ListN.{length, getD, drop}
-use Rattle.numbers.specs.Choose.{pick}
 use Rattle.drive.specs.declared.answer.Answer.{Answer}
 use Rattle.report.specs.Text.{text, padded, digits, signed}
 use Rattle.report.specs.Refusals.{lineLength, accepts}
@@ -48,4 +48,4 @@ line answer =
 
 -- "lent bytes after them unchanged"; "A refusal changes .. no lent byte"
 abbrev pub written : Answer → List ℕ → List ℕ
-written answer lent = pick (accepts answer (length lent)) (line answer ++ drop lineLength lent) lent
+written answer lent = cond (accepts answer (length lent)) (line answer ++ drop lineLength lent) lent

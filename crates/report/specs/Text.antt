@@ -1,4 +1,5 @@
 -- Texts as bytes, and numbers as texts.
+use mathlib.Core.Bool.{cond}
 use Prim.Native.Nat.{ℕ, zero, suc, _/_, _%_}
 use Prim.Native.Char.{code}
 use Prim.Native.String.{String}
@@ -7,7 +8,6 @@ use mathlib.Core.List.{List, [], _∷_, _++_}
 use lib.IntN.{ℤ, pos, natAbs}
 use lib.ListN.{getD, take, replicate}
 use lib.Signed.{ltZ}
-use Rattle.numbers.specs.Choose.{pick}
 
 -- the bytes of a text, in ASCII
 abbrev pub text : String → List ℕ
@@ -29,7 +29,7 @@ digits base (suc width) n = digits base width (n / base) ++ (digit (n % base) �
 
 -- "zero has a plus"
 abbrev pub sign : ℤ → ℕ
-sign z = pick (ltZ z (pos 0)) (code "-") (code "+")
+sign z = cond (ltZ z (pos 0)) (code "-") (code "+")
 
 -- "sign and 5 digits"
 unfoldable pub signed : ℤ → List ℕ

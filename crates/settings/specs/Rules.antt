@@ -1,10 +1,9 @@
 -- Document 01, "Settings, in order": the rule of each, and row 2, "a setting breaks its rule".
 use Prim.Native.Nat.{ℕ, _+_}
-use mathlib.Core.Bool.{Bool, true, _&&_, not}
+use mathlib.Core.Bool.{Bool, true, _&&_, not, cond}
 use mathlib.Core.List.{List, [], _∷_, map}
 use lib.Dec.{eqb, ltb, leb}
 use lib.ListN.{getD}
-use Rattle.numbers.specs.Choose.{pick}
 use Rattle.verdicts.specs.Table.{Row, row}
 use Rattle.settings.specs.Settings.{VdcOvLevel, VdcLvLevel, CriticalOvLevel, CmdStart, CmdStop}
 
@@ -29,9 +28,9 @@ highest = map (λ (r : ℕ × ℕ). r .1) ranges
 -- "4 VdcLvLevel .. below setting 3"; "5 CriticalOvLevel .. not below setting 3"; "22 CmdStop .. below setting 21"
 abbrev pub related : List ℕ → ℕ → Bool
 related s place =
-    pick (eqb place 4) (ltb (VdcLvLevel s) (VdcOvLevel s))
-    (pick (eqb place 5) (leb (VdcOvLevel s) (CriticalOvLevel s))
-    (pick (eqb place 22) (ltb (CmdStop s) (CmdStart s)) true))
+    cond (eqb place 4) (ltb (VdcLvLevel s) (VdcOvLevel s))
+    (cond (eqb place 5) (leb (VdcOvLevel s) (CriticalOvLevel s))
+    (cond (eqb place 22) (ltb (CmdStop s) (CmdStart s)) true))
 
 -- the setting at this index, from 0, keeps its rule
 abbrev pub rule : List ℕ → ℕ → Bool

@@ -1,9 +1,8 @@
 -- Document 01: a table of refusals, and "A number is given exactly when its row holds and none earlier in this order does."
 use Prim.Native.Nat.{ℕ}
-use mathlib.Core.Bool.{Bool, not}
+use mathlib.Core.Bool.{Bool, not, cond}
 use mathlib.Core.List.{List, [], _∷_}
 use lib.Dec.{T}
-use Rattle.numbers.specs.Choose.{pick}
 use Rattle.verdicts.specs.declared.Verdict.{Verdict}
 
 -- a row of the table: number, place, and whether it holds
@@ -24,7 +23,7 @@ told r = record { number = r .number; place = r .place }
 
 -- a row before what the later ones say
 abbrev pub first : Row → Verdict → Verdict
-first r later = pick (r .holds) (told r) later
+first r later = cond (r .holds) (told r) later
 
 -- the first row that holds, or "0 accepted"
 abbrev pub verdict : List Row → Verdict

@@ -1,4 +1,5 @@
 -- `read` makes the tests of the definition in its order, on the bytes that are left from its place on.
+use mathlib.Core.Bool.{cond}
 use mathlib.Core.Path.{_≡_}
 use mathlib.Core.List.{List}
 use Prim.Native.Nat.{ℕ, _+_, _-_, _≤_, _<_}
@@ -7,7 +8,6 @@ use lib.Dec.{eqb}
 use lib.ListN.{length, getD, drop, length-drop}
 use lib.Seq.{getD-drop}
 use denote.Ref.{now}
-use Rattle.numbers.specs.Choose.{pick}
 use borrow.Author.Needs.{needs}
 use borrow.Author.Tests.{eq-eqb, le-ltb, lt-ltb, ne-eqb}
 use Rattle.records.specs.Front.{front, end, begun}
@@ -17,7 +17,7 @@ use Rattle.records.proofs.read.Tie as tie
 -- what stands at a place, in terms of the whole
 from : (bytes : List ℕ) (at : ℕ)
     → front (drop at bytes)
-    ≡ pick (eqb (length bytes - at) 0) end (begun (getD bytes at 0) (length bytes - at) (drop at bytes))
+    ≡ cond (eqb (length bytes - at) 0) end (begun (getD bytes at 0) (length bytes - at) (drop at bytes))
 unfolding front
 from bytes at =
     let here : at + 0 ≡ at = omega arith in

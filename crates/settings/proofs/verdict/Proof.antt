@@ -1,6 +1,6 @@
 -- `verdict` walks the rows from the first: what the rows from `i` on say is what all of them say.
 use mathlib.Core.Path.{_≡_, refl, sym, ap, _∙_}
-use mathlib.Core.Bool.{not}
+use mathlib.Core.Bool.{not, cond}
 use mathlib.Core.List.{List, _∷_, map}
 use Prim.Native.Nat.{ℕ, suc, _+_, _-_, _≤_, _<_}
 use native.Mathlib.Numerals.{add-one}
@@ -9,7 +9,6 @@ use lib.Dec.{eqb, eqb→eq}
 use lib.ListN.{drop, getD}
 use lib.Seq.{drop-cons}
 use borrow.Author.Needs.{needs}
-use Rattle.numbers.specs.Choose.{pick}
 use Rattle.numbers.proofs.Table.{at}
 use Rattle.verdicts.specs.Table.{verdict}
 use Rattle.settings.specs.Rules.{indices, rule, settingRow, settingRows}
@@ -24,7 +23,7 @@ from s i = verdict (map (settingRow s) (drop i indices))
 index-is : (i : ℕ) → i < 24 → getD indices i 0 ≡ i
 index-is i small = eqb→eq (getD indices i 0) i (at (λ (k x : ℕ). eqb x k) indices 0 tt i small)
 
-next : (s : List ℕ) (i : ℕ) → i < 24 → from s i ≡ pick (not (rule s i)) (record { number = 2; place = i + 1 }) (from s (suc i))
+next : (s : List ℕ) (i : ℕ) → i < 24 → from s i ≡ cond (not (rule s i)) (record { number = 2; place = i + 1 }) (from s (suc i))
 next s i small =
     ap (λ (l : List ℕ). verdict (map (settingRow s) l))
     (drop-cons indices i 0 small ∙ ap (λ (x : ℕ). x ∷ drop (suc i) indices) (index-is i small))

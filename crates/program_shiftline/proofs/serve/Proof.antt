@@ -1,0 +1,50 @@
+-- `serve` is safe and ends: both buffers keep their length, what is held stays within its buffer, and the turns fall.
+-- It makes a turn only where its test has shown that there is to be a next read.
+use mathlib.Core.Path.{_≡_, refl, _∙_}
+use Prim.Native.Nat.{_≤_}
+use native.Mathlib.Omega.{arith}
+use lib.ListN.{length}
+use borrow.Author.Needs.{needs}
+use Rattle.program_shiftline.proofs.serve.Statement.{statement}
+use Rattle.program_shiftline.proofs.serve.Tie as tie
+
+abbrev Inv-loop : tie.InvT-loop
+Inv-loop input₀ output₀ turns₀ kept₀ input output turns kept =
+    (length input ≡ length input₀) × (length output ≡ length output₀) × (kept .held ≤ length input)
+
+abbrev μ-loop : tie.MeasureT-loop
+μ-loop input₀ output₀ turns₀ kept₀ input output turns kept = turns
+
+loop-holds : tie.Need-loop-holds Inv-loop μ-loop
+loop-holds c = (refl, refl, omega arith)
+
+turn-requires : tie.Need-turn-requires Inv-loop μ-loop
+turn-requires c κs = search needs
+
+loop-again : tie.Need-loop-again Inv-loop μ-loop
+loop-again c =
+    let turn = c .before .before .before .before .turn in
+    let inv = c .before .before .before .before .before .before .before .before .before .loop .inv in (
+      turn .kept .1 .0 ∙ inv .0,
+      turn .kept .1 .1 .0 ∙ inv .1,
+      omega (arith, turn .ensures .0, turn .kept .1 .0),
+    )
+
+pub serve-spec : {M : Type 1} → statement M
+serve-spec =
+    tie.close
+    (tie.spec
+    Inv-loop
+    μ-loop
+    (λ c κs. search needs)
+    loop-holds
+    turn-requires
+    (λ c. search needs)
+    (λ c. search needs)
+    loop-again
+    (λ c. search needs)
+    (λ c. search needs)
+    (λ c. search needs)
+    (λ c. search needs)
+    (λ c. search needs)
+    (λ c. search needs))

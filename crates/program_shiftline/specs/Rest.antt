@@ -1,0 +1,31 @@
+-- What the program keeps after a run over the front of its buffer, and whether it reads on.
+use Prim.Native.Nat.{ℕ, _+_, _-_}
+use mathlib.Core.Bool.{Bool, false, _&&_, not}
+use mathlib.Core.Path.{_≡_}
+use mathlib.Core.List.{List}
+use lib.Dec.{eqb}
+use lib.ListN.{take, drop}
+use Rattle.drive.specs.declared.Drive.{Drive}
+use Rattle.records.specs.Run.{Outcome, run}
+use Rattle.program_shiftline.specs.declared.Kept.{Kept}
+
+-- the run over the first `filled` bytes of the buffer
+abbrev pub ran : Bool → ℕ → ℕ → List ℕ → Drive → Outcome
+ran closed room filled buffer drive = run closed room (take filled buffer) drive
+
+-- the drive that the run left and, at the front of the buffer, the bytes that it did not take; "a line with number 6 .. ends the run",
+-- and so does the end of the input. No contract says whether the lines were written: `written` is what the OS told of it.
+pub record Rest (closed : Bool) (room filled : ℕ) (before after : List ℕ) (drive : Drive) (kept : Kept) : Type 0 where
+  pub left : kept .drive ≡ ran closed room filled before drive .drive
+  pub count : kept .held ≡ filled - ran closed room filled before drive .taken
+  pub bytes : take (kept .held) after ≡ take (kept .held) (drop (ran closed room filled before drive .taken) before)
+  pub written : Bool
+  pub going : kept .going ≡ (written && not (ran closed room filled before drive .ended) && not closed)
+
+-- A turn of the program: one read behind the bytes that it holds, and a run over all of them. No contract says how many bytes
+-- come, nor which; where none come, the input is closed. A read that fails ends the program.
+pub data Turned (room : ℕ) (before after : List ℕ) (old new : Kept) : Type 0 where
+  failed : new .drive ≡ old .drive → new .held ≡ old .held → new .going ≡ false → Turned room before after old new
+  answered : (count : ℕ) (read : List ℕ) → take (old .held) read ≡ take (old .held) before
+      → Rest (eqb count 0) room (old .held + count) read after (old .drive) new
+      → Turned room before after old new

@@ -1,0 +1,24 @@
+-- `replied` lends the first `call` of 44 numbers, which are `call` many.
+use mathlib.Core.Path.{sym}
+use lib.Seq.{length-take-le}
+use borrow.Author.Needs.{needs}
+use Rattle.test_refusals.proofs.calls.replied.Statement.{statement}
+use Rattle.test_refusals.proofs.calls.replied.Tie as tie
+
+slice-aggregate-load : tie.Need-slice-aggregate-load
+slice-aggregate-load c = sym (length-take-le _ _ (search needs))
+
+pub replied-spec : {M : Type 1} → statement M
+replied-spec =
+    tie.close
+    (tie.spec
+    (λ c. search needs)
+    slice-aggregate-load
+    (λ c κs. search needs)
+    (λ c. search needs)
+    (λ c κs. search needs)
+    (λ c κs. search needs)
+    (λ c. search needs)
+    (λ c κs. search needs)
+    (λ c κs. search needs)
+    (λ c. search needs))

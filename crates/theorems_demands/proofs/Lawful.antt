@@ -1,0 +1,237 @@
+-- This drive obeys the laws of demand 3 at every call, and so demand 3 holds of the log of every sequence of its calls.
+use mathlib.Core.Path.{_≡_, refl, ap, sym, subst}
+use mathlib.Core.Bool.{Bool, true, false, not, _&&_, _||_}
+use mathlib.Core.List.{List}
+use Prim.Native.Nat.{ℕ, _≤_, zero-le}
+use lib.Dec.{T, eqb, not-T}
+use mir.Facts.{and-yes, ltb-no}
+use Rattle.numbers.proofs.Tests.{decide}
+use Rattle.theorems_history.specs.Onlooker.{Memory, Asked, neither, heard, remember, noted, note}
+use Rattle.theorems_history.specs.Laws.{Step, Lawful}
+use Rattle.numbers.proofs.Tests.{or-left, fails-left, fails-right, contrary, joins}
+use Rattle.theorems_history.proofs.Steps
+use Rattle.theorems_history.proofs.Demand3.{demand3}
+use Rattle.states.specs.States.{numberOf, is, turning}
+use Rattle.settings.specs.Settings.{FaultEnable, RetryLimit}
+use Rattle.drive.specs.Flags.{any}
+use Rattle.drive.specs.Command.{low}
+use Rattle.drive.specs.Answer.{alive, answer, reply as replied}
+use Rattle.verdicts.specs.Table.{verdict}
+use Rattle.drive.specs.Refusals.{loadRows, cycleRows, tickRows}
+use Rattle.drive.specs.Calls.{fresh, cycled, ticked, sample}
+use Rattle.drive.specs.Calls
+use Rattle.drive.specs.AnyCall.{Call, loads, cycles, ticks, reply}
+use Rattle.drive.specs.declared.Drive.{Drive}
+use Rattle.drive.specs.declared.answer.Reply.{Reply}
+use Rattle.fields.specs.declared.Cycle.{Cycle}
+use Rattle.fields.specs.declared.Tick.{Tick}
+use Rattle.states.specs.declared.State.the-variants.{Stop}
+use Rattle.hall.specs.declared.Hall.{Hall}
+use Rattle.drive.specs.declared.flags.Flags.{Flags}
+use Rattle.drive.specs.declared.offsets.Offsets.{Offsets}
+use Rattle.theorems_reached.specs.Machine.{machine}
+use Rattle.theorems_reached.specs.Reached.{Reached}
+use Rattle.theorems_reached.proofs.Verdicts.{settles, passed, accepted-state}
+use Rattle.theorems_reached.proofs.Flags.{stays-with-hall}
+use Rattle.theorems_reached.proofs.Keeps.{reached-power-up, cycled-reached, call-keeps}
+use Rattle.theorems_reached.proofs.Corollaries.{disarmed-in-fault, low-excludes-high}
+use Rattle.theorems_demands.specs.Supervised.{words, deadCauseOf, DriveDemand3}
+use Rattle.theorems_demands.proofs.Shown.{inside, fault-shown, gates-ask, dark, shows-turning}
+use Rattle.theorems_demands.proofs.Causes.{dead-shows}
+use Rattle.theorems_demands.proofs.Remembers.{Remembers, remembers-power-up, afterRefused, refused-remembers, load-remembers}
+use Rattle.theorems_demands.proofs.Remembers.{cycle-remembers, tick-remembers}
+use Rattle.theorems_demands.proofs.Ticks
+use Rattle.theorems_demands.proofs.Tests.{never-both, idle-or-stop, not-both, begins, begins-nothing}
+
+-- ---- a call in a reached state, with an onlooker who remembers what is so
+
+-- what is to be shown of a call and its reply
+module _ (d : Drive) (memory : Memory) (call : Call) where
+  pub record Done (r : Reply) : Type 0 where
+    pub remembers : Remembers (r .drive) (remember words memory (record { call = call; answer = r .answer }))
+    pub obeys : Step (inside d) (note words memory (record { call = call; answer = r .answer })) (inside (r .drive))
+
+same-memory :
+    (m : Memory) {numbers : List ℕ} {shown : ℕ} {dead : ℕ}
+    → m .numbers ≡ numbers
+    → m .shown ≡ shown
+    → m .dead ≡ dead
+    → record { numbers = numbers; shown = shown; waited = m .waited; dead = dead } ≡ m
+same-memory m a b c = rw (← a, ← b, ← c)
+
+module _ (d : Drive) (r : Reached d) (memory : Memory) (knows : Remembers d memory) where
+  -- the retries used are within the limit that he remembers
+  within : d .retries ≤ RetryLimit (memory .numbers)
+  within =
+      decide (is 0 (d .state))
+      (λ idle. rw (r .idle idle) zero-le)
+      (λ outside. rw (knows .loaded outside) (r .retries))
+
+  -- a call that is no tick and after which the drive stands where it stood, armed as it was: one that is refused, and a cycle. It may end
+  -- the turning, by a flag
+  module _ (hall : Hall) (flags : Flags) (cycles : ℕ) (offsets : Offsets) where
+    abbrev stood : Drive
+    stood =
+        record {
+          state = d .state;
+          settings = d .settings;
+          hall = hall;
+          flags = flags;
+          cycles = cycles;
+          ticks = d .ticks;
+          offsets = offsets;
+          run = d .run;
+          armed = d .armed;
+          retries = d .retries;
+        }
+
+    -- a dead streak of 2 is flagged as long as it stands; in IDLE there is none
+    dead-faults :
+        (now : Memory)
+        → Reached stood
+        → Remembers stood now
+        → T (deadCauseOf (now .numbers) (now .dead))
+        → T (any (alive stood))
+    dead-faults now r-now knows-now cause =
+        decide (is 0 (d .state))
+        (λ idle.
+        let none : hall .dead ≡ 0 = ap (λ (e : Drive). e .hall .dead) (r-now .idle idle) in absurd (rw (knows-now .dead, none) at cause))
+        (λ outside. dead-shows stood r-now (rw (knows-now .loaded outside, knows-now .dead) at cause))
+
+    stands :
+        (number at : ℕ) (now : Memory)
+        → Reached stood
+        → (T (any (alive d)) → T (any (alive stood)))
+        → Remembers stood now
+        → now .numbers ≡ memory .numbers
+        → Step (inside d) (noted words memory neither now (answer number at stood)) (inside stood)
+    unfolding answer
+    stands number at now r-now more knows-now same =
+        Steps.passes-by (inside d) (noted words memory neither now (answer number at stood)) (inside stood) (gates-ask number at stood)
+        (rw same within)
+        (fault-shown number at stood)
+        (dead-faults now r-now knows-now)
+        (λ was keeps. more was)
+        (dark number at stood)
+        tt
+        (fails-right (eqb (now .shown) 3 && eqb (memory .shown) 1) false tt)
+        (rw (knows .shown, knows-now .shown) (begins-nothing (d .state)))
+        (rw (knows .shown, knows-now .shown) (never-both (is 5 (d .state))))
+        (λ is. is)
+        (or-left (d .armed) false)
+        (λ turns.
+        let (runs, dim) = and-yes (turning (d .state)) (not (any (alive stood))) turns in
+        let drives = shows-turning number at stood turns in
+        let was = contrary (any (alive d)) (any (alive stood)) more dim in
+        let no-start : Bool = not (is 3 (d .state) && is 1 (d .state) && false) in
+        let begun = fails-left (begins (d .state) (d .state)) no-start (begins-nothing (d .state)) in
+        rw (knows .shown, knows-now .shown) (search joins depth 9))
+        refl
+
+  module _ (call : Call) (number at : ℕ) (not-0 : eqb number 0 ≡ false) where
+    abbrev after : Memory
+    after = afterRefused memory call number at d
+
+    heard-nothing : heard words (record { call = call; answer = answer number at d }) ≡ neither
+    unfolding answer
+    heard-nothing = rw not-0
+
+    loaded-nothing : after .numbers ≡ memory .numbers
+    unfolding answer
+    loaded-nothing = rw not-0
+
+    refused : Done d memory call (replied number at d)
+    refused =
+        let now = refused-remembers d memory knows call number at not-0 in
+        record {
+          remembers = now;
+          obeys =
+              subst (λ (about : Asked Tick). Step (inside d) (noted words memory about after (answer number at d)) (inside d))
+              (sym heard-nothing)
+              (stands (d .hall) (d .flags) (d .cycles) (d .offsets) number at after r (λ t. t) now loaded-nothing);
+        }
+
+  load-done :
+      (numbers : List ℕ)
+      → T (is 0 (d .state) || is 1 (d .state))
+      → Done d memory (loads numbers) (replied 0 0 (fresh Stop numbers))
+  unfolding answer
+  load-done numbers admitted =
+      record {
+        remembers = load-remembers d memory knows numbers;
+        obeys =
+            Steps.loads (inside d) _ (inside (fresh Stop numbers)) (gates-ask 0 0 (fresh Stop numbers)) zero-le
+            (fault-shown 0 0 (fresh Stop numbers)) (λ cause. cause) (λ was keeps. absurd keeps) (dark 0 0 (fresh Stop numbers))
+            tt tt
+            (rw (knows .shown) (fails-left (is 5 (d .state)) true (idle-or-stop (numberOf (d .state)) admitted)))
+            tt tt refl;
+      }
+
+  cycle-done : (c : Cycle) → Reached (cycled d c) → c .pattern ≤ 7 → Done d memory (cycles c) (replied 0 0 (cycled d c))
+  unfolding answer cycled
+  cycle-done c r-now small =
+      let now = cycle-remembers d memory knows c small in
+      record {
+        remembers = now;
+        obeys =
+            stands _ _ _ _ 0 0 _ r-now (stays-with-hall (FaultEnable (d .settings)) (sample d c .flagged) (d .flags)) now refl;
+      }
+
+  module _ (t : Tick) (outside : T (not (is 0 (d .state)))) where
+    -- what he remembers, in the drive's words
+    recalled :
+        Ticks.memory (d .settings) (d .hall) (d .flags) (d .cycles) (d .ticks) (d .offsets) (d .run) (d .armed) (d .retries) t
+        (memory .waited) (d .state)
+        ≡ memory
+    recalled = same-memory memory (knows .loaded outside) (knows .shown) (knows .dead)
+
+    tick-done : Done d memory (ticks t) (replied 0 0 (ticked d t))
+    tick-done =
+        record {
+          remembers = tick-remembers d memory knows t outside;
+          obeys =
+              subst
+              (λ (m : Memory).
+              Step (inside d) (note words m (record { call = ticks t; answer = answer 0 0 (ticked d t) })) (inside (ticked d t)))
+              recalled
+              (Ticks.tick-obeys (d .settings) (d .hall) (d .flags) (d .cycles) (d .ticks) (d .offsets) (d .run) (d .armed) (d .retries) t
+              (memory .waited) (r .retries) (d .state)
+              outside
+              (not-both (is 5 (d .state)) (d .armed) (λ fault. rw (disarmed-in-fault d r fault) tt))
+              (knows .waited)
+              (r .tripped)
+              (λ is-high. not-T (low (d .settings) t) (λ is-low. low-excludes-high d r t outside is-low is-high)));
+        }
+
+  done : (call : Call) → Done d memory call (reply d call)
+  unfolding Calls.load Calls.cycle Calls.tick
+  done (loads numbers) =
+      settles (Done d memory (loads numbers)) (verdict (loadRows d numbers)) (fresh Stop numbers) d
+      (λ none. load-done numbers (accepted-state d numbers none))
+      (refused (loads numbers) _ _)
+  done (cycles c) =
+      settles (Done d memory (cycles c)) (verdict (cycleRows d c)) (cycled d c) d
+      (λ none. let p = passed (cycleRows d c) tt none in
+      cycle-done c (cycled-reached d c r (p .0) (ltb-no (p .1 .1 .0)) (ltb-no (p .1 .1 .1 .0))) (ltb-no (p .1 .0)))
+      (refused (cycles c) _ _)
+  done (ticks t) =
+      settles (Done d memory (ticks t)) (verdict (tickRows d t)) (ticked d t) d
+      (λ none. tick-done t (passed (tickRows d t) tt none .0))
+      (refused (ticks t) _ _)
+
+-- ---- every call
+
+pub lawful : Lawful machine words
+lawful =
+    record {
+      inside = inside;
+      Good = λ d memory. Reached d × Remembers d memory;
+      good-at-power-up = (reached-power-up, remembers-power-up);
+      good-after = λ d memory good call. (call-keeps d call (good .0), done d (good .0) memory (good .1) call .remembers);
+      asleep-at-power-up = refl;
+      obeys = λ d memory good call. done d (good .0) memory (good .1) call .obeys;
+    }
+
+-- Demand 3 of this drive, for every list of calls from power-up, stated of the log of calls and answers.
+pub drive-demand3 : DriveDemand3
+drive-demand3 = demand3 machine words lawful

@@ -1,0 +1,124 @@
+-- Demand 1: "Bad input is refused with the number and place in document 01; the drive state and any lent bytes then stand as before."
+-- A caller sees the refusal by the number that it is told, so each theorem starts from that. And no cycle and no tick changes a setting.
+use mathlib.Core.Path.{_≡_, refl}
+use mathlib.Core.Bool.{Bool, true, false}
+use mathlib.Core.List.{List}
+use mathlib.Core.Logic.{_⊎_, inl, inr}
+use Prim.Native.Nat.{ℕ, zero, suc}
+use lib.Dec.{ltb}
+use lib.ListN.{length, drop}
+use lib.Seq.{drop-at}
+use borrow.Author.Tests.{ne-eqb}
+use Rattle.numbers.proofs.Tests.{by-test}
+use Rattle.drive.specs.Answer.{answer, reply as shown}
+use Rattle.verdicts.specs.Table.{Row, verdict}
+use Rattle.drive.specs.Refusals.{loadRows, cycleRows, tickRows}
+use Rattle.drive.specs.Calls
+use Rattle.drive.specs.Calls.{settle}
+use Rattle.drive.specs.AnyCall.{Call, loads, cycles, ticks, reply}
+use Rattle.drive.specs.declared.Drive.{Drive}
+use Rattle.drive.specs.declared.answer.Answer.{Answer}
+use Rattle.drive.specs.declared.answer.Reply.{Reply}
+use Rattle.fields.specs.declared.Cycle.{Cycle}
+use Rattle.fields.specs.declared.Tick.{Tick}
+use Rattle.drive.specs.declared.flags.Flags.{Flags}
+use Rattle.motor.specs.declared.Watched.{Watched}
+use Rattle.moves.specs.declared.Move.{Move}
+use Rattle.moves.specs.declared.Move.the-variants.{Stay, Enter, Measure, Clear, Retry}
+use Rattle.verdicts.specs.declared.Verdict.{Verdict}
+use Rattle.report.specs.Refusals.{lineLength, told, accepts}
+use Rattle.report.specs.Line.{line, written}
+use Rattle.report.proofs.Fields.{length-line}
+use Rattle.records.specs.Front.{Front, end, unknown, short, whole, front}
+use Rattle.records.specs.Run.{Outcome, rest, refused, follow, runs, told as ranOf, written as ranWritten}
+use Rattle.theorems_reached.proofs.Verdicts.{settles, settled}
+
+-- the table of refusals of a call
+abbrev pub rows : Drive → Call → List Row
+rows d (loads numbers) = loadRows d numbers
+rows d (cycles fields) = cycleRows d fields
+rows d (ticks fields) = tickRows d fields
+
+refusal :
+    (v : Verdict) (next d : Drive)
+    → (settle v next d .answer .number ≡ 0 → ⊥)
+    → settle v next d ≡ shown (v .number) (v .place) d
+unfolding answer
+refusal v next d =
+    settles (λ (r : Reply). (r .answer .number ≡ 0 → ⊥) → r ≡ shown (v .number) (v .place) d) v next d
+    (λ none given. absurd (given refl))
+    (λ refused given. refl)
+
+-- a call that answers another number than 0 leaves the state, and shows it with the number and place of the first row that holds
+pub refused-unchanged :
+    (d : Drive) (call : Call)
+    → (reply d call .answer .number ≡ 0 → ⊥)
+    → reply d call ≡ shown (verdict (rows d call) .number) (verdict (rows d call) .place) d
+unfolding Calls.load Calls.cycle Calls.tick
+refused-unchanged d (loads numbers) given = refusal (verdict (loadRows d numbers)) _ d given
+refused-unchanged d (cycles fields) given = refusal (verdict (cycleRows d fields)) _ d given
+refused-unchanged d (ticks fields) given = refusal (verdict (tickRows d fields)) _ d given
+
+-- a line call that tells another number than 0 leaves each lent byte
+pub refused-line : (a : Answer) (lent : List ℕ) → (told a (length lent) .number ≡ 0 → ⊥) → written a lent ≡ lent
+refused-line a lent given = rw (ne-eqb (told a (length lent) .number) 0 given)
+
+-- and whatever it tells, each byte behind the line's 45
+behind :
+    (a : Answer) (lent : List ℕ) (taken : Bool)
+    → accepts a (length lent) ≡ taken
+    → drop lineLength (written a lent) ≡ drop lineLength lent
+behind a lent true e = rw e (drop-at (line a) (drop lineLength lent) lineLength (length-line a))
+behind a lent false e = rw e
+
+pub behind-the-line : (a : Answer) (lent : List ℕ) → drop lineLength (written a lent) ≡ drop lineLength lent
+behind-the-line a lent = behind a lent (accepts a (length lent)) refl
+
+-- a run is not refused as a whole: whatever it comes to, it leaves each byte behind those that it says it wrote
+pub behind-the-lines : (o : Outcome) (lent : List ℕ) → drop (ranOf o .written) (ranWritten o lent) ≡ drop (ranOf o .written) lent
+behind-the-lines o lent = drop-at (o .lines) (drop (length (o .lines)) lent) (length (o .lines)) refl
+
+-- and where its input begins with no whole record, it takes nothing and leaves the state: number 6 or, where more may come, no line
+unread :
+    (closed : Bool) (d : Drive) (f : Front) (onward : Call → Outcome)
+    → ((r : Call) → f ≡ whole r → ⊥)
+    → (follow closed d f onward ≡ rest d) ⊎ (follow closed d f onward ≡ refused d)
+unread closed d end onward none = inl refl
+unread closed d unknown onward none = inr refl
+unread true d short onward none = inr refl
+unread false d short onward none = inl refl
+unread closed d (whole r) onward none = absurd (none r refl)
+
+pub unread-unchanged :
+    (fuel : ℕ) (closed : Bool) (room : ℕ) (bytes : List ℕ) (d : Drive)
+    → ((r : Call) → front bytes ≡ whole r → ⊥)
+    → (runs fuel closed room bytes d ≡ rest d) ⊎ (runs fuel closed room bytes d ≡ refused d)
+unfolding runs
+unread-unchanged zero closed room bytes d none = inl refl
+unread-unchanged (suc fuel) closed room bytes d none =
+    by-test (λ (o : Outcome). (o ≡ rest d) ⊎ (o ≡ refused d)) (ltb room lineLength)
+    (λ tight. inl refl)
+    (λ wide. unread closed d (front bytes) _ none)
+
+-- "The drive state keeps its 24 settings as loaded": no cycle and no tick changes them
+settings-moved :
+    (d : Drive) (t : Tick) (w : Watched) (flags : Flags) (armed : Bool) (move : Move)
+    → Calls.moved d t w flags armed move .settings ≡ d .settings
+settings-moved d t w flags armed Stay = refl
+settings-moved d t w flags armed (Enter state) = refl
+settings-moved d t w flags armed Measure = refl
+settings-moved d t w flags armed Clear = refl
+settings-moved d t w flags armed Retry = refl
+
+settled-settings : (v : Verdict) (next d : Drive) → next .settings ≡ d .settings → settle v next d .drive .settings ≡ d .settings
+settled-settings v next d e = settled (λ (after : Drive). after .settings ≡ d .settings) v next d (λ none. e) refl
+
+pub cycle-keeps-settings : (d : Drive) (c : Cycle) → Calls.cycle d c .drive .settings ≡ d .settings
+unfolding Calls.cycle Calls.cycled
+cycle-keeps-settings d c = settled-settings (verdict (cycleRows d c)) (Calls.cycled d c) d refl
+
+pub tick-keeps-settings : (d : Drive) (t : Tick) → Calls.tick d t .drive .settings ≡ d .settings
+unfolding Calls.tick Calls.ticked
+tick-keeps-settings d t =
+    settled-settings (verdict (tickRows d t)) (Calls.ticked d t) d
+    (settings-moved d t (Calls.watch d t) (Calls.raised d t) (Calls.arms d t) (Calls.chosen d t))

@@ -1,0 +1,90 @@
+-- What the onlooker remembers of the log is so of the drive: each call leaves it so.
+use mathlib.Core.Path.{_≡_, refl, sym}
+use mathlib.Core.Bool.{true, false, not}
+use mathlib.Core.List.{List}
+use Prim.Native.Nat.{ℕ, _≤_, zero-le}
+use native.Mathlib.Omega.{arith}
+use lib.Dec.{T, eqb}
+use lib.Ieee.Bits.{is-true}
+use Rattle.theorems_history.specs.Onlooker.{Memory, nothingYet, remember}
+use Rattle.states.specs.States.{numberOf, is}
+use Rattle.drive.specs.Answer.{answer}
+use Rattle.drive.specs.Calls.{powerUp, fresh, cycled, ticked, moved, watch, raised, arms, chosen}
+use Rattle.drive.specs.AnyCall.{Call, loads, cycles, ticks}
+use Rattle.drive.specs.declared.Drive.{Drive}
+use Rattle.fields.specs.declared.Cycle.{Cycle}
+use Rattle.fields.specs.declared.Tick.{Tick}
+use Rattle.moves.specs.declared.Move.{Move}
+use Rattle.moves.specs.declared.Move.the-variants.{Stay, Enter, Measure, Clear, Retry}
+use Rattle.states.specs.declared.State.the-variants.{Stop}
+use Rattle.theorems_reached.proofs.Hall.{dead-by-pattern}
+use Rattle.theorems_demands.specs.Supervised.{words}
+
+pub record Remembers (d : Drive) (memory : Memory) : Type 0 where
+  -- in IDLE nothing is loaded, and nothing is asked of what is
+  pub loaded : T (not (is 0 (d .state))) → memory .numbers ≡ d .settings
+  pub shown : memory .shown ≡ numberOf (d .state)
+  -- the drive stops counting at 65535; he does not
+  pub waited : T (is 5 (d .state)) → d .ticks ≤ memory .waited
+  pub dead : memory .dead ≡ d .hall .dead
+
+pub remembers-power-up : Remembers powerUp nothingYet
+remembers-power-up = record { loaded = λ t. absurd t; shown = refl; waited = λ t. absurd t; dead = refl }
+
+-- his memory after a call that was refused with this number, and after one that was accepted
+abbrev pub afterRefused : Memory → Call → ℕ → ℕ → Drive → Memory
+afterRefused memory call number at d = remember words memory (record { call = call; answer = answer number at d })
+
+abbrev pub afterAccepted : Memory → Call → Drive → Memory
+afterAccepted memory call next = remember words memory (record { call = call; answer = answer 0 0 next })
+
+module _ (d : Drive) (memory : Memory) (knows : Remembers d memory) where
+  -- in FAULT the last answer showed it
+  in-fault : T (is 5 (d .state)) → eqb (memory .shown) 5 ≡ true
+  in-fault fault = rw (knows .shown) (is-true (is 5 (d .state)) fault)
+
+  pub refused-remembers : (call : Call) (number at : ℕ) → eqb number 0 ≡ false → Remembers d (afterRefused memory call number at d)
+  unfolding answer
+  refused-remembers call number at refused =
+      record {
+        loaded = λ outside. rw refused (knows .loaded outside);
+        shown = refl;
+        waited = λ fault. rw (in-fault fault, refused) (knows .waited fault);
+        dead = rw refused (knows .dead);
+      }
+
+  pub load-remembers : (numbers : List ℕ) → Remembers (fresh Stop numbers) (afterAccepted memory (loads numbers) (fresh Stop numbers))
+  unfolding answer
+  load-remembers numbers = record { loaded = λ t. refl; shown = refl; waited = λ t. absurd t; dead = refl }
+
+  pub cycle-remembers : (c : Cycle) → c .pattern ≤ 7 → Remembers (cycled d c) (afterAccepted memory (cycles c) (cycled d c))
+  unfolding answer cycled
+  cycle-remembers c small =
+      record {
+        loaded = knows .loaded;
+        shown = refl;
+        waited = λ fault. rw (in-fault fault) (knows .waited fault);
+        dead = rw (knows .dead) (sym (dead-by-pattern (d .hall) (c .pattern) _ small));
+      }
+
+  module _ (t : Tick) (outside : T (not (is 0 (d .state)))) where
+    abbrev next : Move → Drive
+    next move = moved d t (watch d t) (raised d t) (arms d t) move
+
+    by-move : (move : Move) → Remembers (next move) (afterAccepted memory (ticks t) (next move))
+    unfolding answer
+    by-move Stay =
+        record {
+          loaded = knows .loaded;
+          shown = refl;
+          waited = λ fault. let few = knows .waited fault in rw (in-fault fault) (omega arith);
+          dead = knows .dead;
+        }
+    by-move (Enter state) = record { loaded = λ u. knows .loaded outside; shown = refl; waited = λ fault. zero-le; dead = knows .dead }
+    by-move Measure = record { loaded = λ u. knows .loaded outside; shown = refl; waited = λ fault. zero-le; dead = knows .dead }
+    by-move Clear = record { loaded = λ u. knows .loaded outside; shown = refl; waited = λ fault. zero-le; dead = knows .dead }
+    by-move Retry = record { loaded = λ u. knows .loaded outside; shown = refl; waited = λ fault. zero-le; dead = knows .dead }
+
+    pub tick-remembers : Remembers (ticked d t) (afterAccepted memory (ticks t) (ticked d t))
+    unfolding ticked
+    tick-remembers = by-move (chosen d t)

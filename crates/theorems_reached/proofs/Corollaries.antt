@@ -1,0 +1,170 @@
+-- What follows of a reached state, as other proofs want it.
+use mathlib.Core.Path.{_≡_, refl, ap, subst, sym}
+use mathlib.Core.Bool.{Bool, true, false, _||_, not, cond}
+use Prim.Native.Nat.{ℕ, zero, suc, _+_, _*_, _/_, _≤_, _<_, min}
+use native.Mathlib.Omega.{arith}
+use lib.Dec.{T, eqb, leb, eqb→eq}
+use lib.Ieee.Bits.{is-false}
+use lib.IntN.{ℤ, pos, negsuc, negℤ, natAbs}
+use lib.Signed.{quotZ}
+use mir.Facts.{T-not, not-T, leb-yes, ltb-yes, eqb-yes}
+use Rattle.numbers.specs.Limit.{limit}
+use Rattle.states.specs.States.{numberOf, is, turning}
+use Rattle.settings.specs.Settings.{OffsetPsc, CmdStart, CmdStop, mode1, samples}
+use Rattle.drive.specs.Flags.{none, any}
+use Rattle.drive.specs.Command.{low, high}
+use Rattle.drive.specs.Offsets.{added}
+use Rattle.drive.specs.Answer.{alive, gate, reported}
+use Rattle.drive.specs.declared.Drive.{Drive}
+use Rattle.fields.specs.declared.Tick.{Tick}
+use Rattle.states.specs.declared.State.{State}
+use Rattle.drive.specs.declared.flags.Flags.{Flags}
+use Rattle.theorems_reached.specs.Reached.{RunWithin, AtMost, butHall, Reached}
+use Rattle.numbers.proofs.Tests.{by-test, decide}
+use Rattle.theorems_reached.proofs.Verdicts.{at-most, related-there}
+use Rattle.theorems_reached.proofs.Run.{still-within}
+use Rattle.theorems_reached.proofs.Offsets.{samples-small, added-exactly}
+use Rattle.theorems_reached.proofs.States.{turns}
+
+-- ---- numbers of the answer
+
+opposite-unlimited : (q : ℕ) → q ≤ 32767 → limit (negℤ (pos q)) ≡ negℤ (pos q)
+opposite-unlimited zero small = refl
+opposite-unlimited (suc q) small = ap negsuc (omega arith)
+
+unlimited : (z : ℤ) → natAbs z ≤ 32767 * 2048 → limit (quotZ z (pos 2048)) ≡ quotZ z (pos 2048)
+unlimited (pos n) small = ap pos (omega arith)
+unlimited (negsuc n) small = opposite-unlimited (suc n / 2048) (omega arith)
+
+-- ---- flags, gates and commands
+
+-- eight flags and no ninth
+abbrev eight : Bool → Bool → Bool → Bool → Bool → Bool → Bool → Bool → Flags
+eight a b c d e f g h =
+    record { kill = a; critical = b; over = c; under = d; flux = e; heat = f; lock = g; timeout = h; hall = false }
+
+none-of-eight : (a b c d e f g h : Bool) → T (not (any (eight a b c d e f g h))) → eight a b c d e f g h ≡ none
+none-of-eight true b c d e f g h t = absurd t
+none-of-eight false true c d e f g h t = absurd t
+none-of-eight false false true d e f g h t = absurd t
+none-of-eight false false false true e f g h t = absurd t
+none-of-eight false false false false true f g h t = absurd t
+none-of-eight false false false false false true g h t = absurd t
+none-of-eight false false false false false false true h t = absurd t
+none-of-eight false false false false false false false true t = absurd t
+none-of-eight false false false false false false false false t = refl
+
+-- without bit 1 the low sides are not all on
+no-brake : (s : State) (f : Flags) → T (not (f .critical)) → gate s f ≤ 2
+no-brake s f safe =
+    by-test (λ (g : ℕ). g ≤ 2) (f .kill) (λ t. omega arith)
+    (λ t.
+    by-test (λ (g : ℕ). g ≤ 2) (f .critical) (λ u. absurd (T-not (f .critical) u safe))
+    (λ u.
+    by-test (λ (g : ℕ). g ≤ 2) (any f) (λ v. omega arith)
+    (λ v.
+    by-test (λ (g : ℕ). g ≤ 2) (is 3 s) (λ w. omega arith)
+    (λ w. by-test (λ (g : ℕ). g ≤ 2) (turning s) {a = 2} {b = 0} (λ x. omega arith) (λ x. omega arith)))))
+
+-- neither a command nor a control is low and high at once
+one-level :
+    (mode : Bool) (command control : ℕ) {stop start : ℕ}
+    → stop < start
+    → T (cond mode (leb control stop) (eqb command 0))
+    → T (cond mode (leb start control) (eqb command 1))
+    → ⊥
+one-level true command control below low high = omega (arith, leb-yes)
+one-level false command control below low high = omega (arith, eqb-yes)
+
+module _ (d : Drive) (r : Reached d) where
+  -- ---- what runs
+
+  -- Outside IDLE, in MOTORRUN or not, what runs is within its bounds.
+  pub run-within : T (not (is 0 (d .state))) → RunWithin (d .settings) (d .run)
+  run-within outside =
+      decide (is 4 (d .state)) (r .running)
+      (λ t. rw (r .resting t) (still-within (d .settings) (r .settings outside)))
+
+  -- The speed reference is within plus or minus 32767 times 2048, in every state.
+  pub reference-within : natAbs (d .run .reference) ≤ 32767 * 2048
+  reference-within = decide (is 4 (d .state)) (λ t. r .running t .reference) (λ t. rw (r .resting t) (omega arith))
+
+  -- The reported reference is the quotient itself: the limit in `reported` never acts.
+  pub reported-exactly : reported (d .run .reference) ≡ quotZ (d .run .reference) (pos 2048)
+  reported-exactly = unlimited (d .run .reference) reference-within
+
+  -- ---- offsets
+
+  -- No sum wraps: a cycle adds its samples exactly, whatever a u16 holds.
+  pub sums-exactly :
+      (first second : ℕ)
+      → first < 65536
+      → second < 65536
+      → added first second (d .offsets) .sum
+      ≡ record { first = d .offsets .sum .first + first; second = d .offsets .sum .second + second }
+  sums-exactly first second first-fits second-fits =
+      added-exactly (OffsetPsc (d .settings)) first second (d .offsets) (r .offsets) first-fits second-fits
+
+  -- No sum needs more than 25 bits.
+  pub sums-within : AtMost (4095 * 8192) (d .offsets .sum)
+  sums-within = let within = r .offsets in omega (arith, samples-small (OffsetPsc (d .settings)))
+
+  -- In OFFSETCAL each sum has at most a sample of 4095 for each cycle, and at most N.
+  pub summing-within :
+      T (is 2 (d .state))
+      → AtMost (4095 * min (d .cycles) (samples (OffsetPsc (d .settings)))) (d .offsets .sum)
+  summing-within t = let summing = r .summing t in let within = r .offsets in omega arith
+
+  -- ---- retries
+
+  pub retries-within : d .retries ≤ 100
+  retries-within =
+      decide (is 0 (d .state))
+      (λ t. rw (r .idle t) (omega arith))
+      (λ t. let few = r .retries in omega (arith, at-most (r .settings t) 23 (omega arith)))
+
+  -- ---- arming
+
+  -- Only in STOP and OFFSETCAL is the drive ever armed.
+  disarmed : T (not (is 1 (d .state) || is 2 (d .state))) → d .armed ≡ false
+  disarmed elsewhere =
+      is-false (d .armed) (not-T (d .armed) (λ t. T-not (is 1 (d .state) || is 2 (d .state)) (r .armed t) elsewhere))
+
+  pub disarmed-in-fault : T (is 5 (d .state)) → d .armed ≡ false
+  disarmed-in-fault t =
+      disarmed (subst (λ (n : ℕ). T (not (eqb n 1 || eqb n 2))) (sym (eqb→eq (numberOf (d .state)) 5 t)) tt)
+
+  pub disarmed-in-turning : T (turning (d .state)) → d .armed ≡ false
+  disarmed-in-turning t = disarmed (turns (d .state) t .not-waiting)
+
+  pub disarmed-in-idle : T (is 0 (d .state)) → d .armed ≡ false
+  disarmed-in-idle t = ap (λ (e : Drive). e .armed) (r .idle t)
+
+  -- A tick holds no low and high at once: "CmdStop .. below" CmdStart.
+  pub low-excludes-high :
+      (t : Tick)
+      → T (not (is 0 (d .state)))
+      → T (low (d .settings) t)
+      → T (high (d .settings) t)
+      → ⊥
+  low-excludes-high t outside =
+      let below : CmdStop (d .settings) < CmdStart (d .settings) =
+      ltb-yes (related-there (r .settings outside) 21 (omega arith))
+      in
+      one-level (mode1 (d .settings)) (t .command) (t .control) below
+
+  -- ---- flags and gates
+
+  pub no-flag-in-idle : T (is 0 (d .state)) → d .flags ≡ none
+  no-flag-in-idle t = ap (λ (e : Drive). e .flags) (r .idle t)
+
+  -- Outside FAULT nothing is live but flag 15, which waits for the next tick.
+  pub live-outside-fault : T (not (is 5 (d .state))) → butHall (alive d) ≡ none
+  live-outside-fault t =
+      let f = alive d in
+      none-of-eight (f .kill) (f .critical) (f .over) (f .under) (f .flux) (f .heat) (f .lock) (f .timeout) (r .quiet t)
+
+  -- Outside FAULT the gates are off, charge or drive: the brake (3) is FAULT's alone.
+  pub no-brake-outside-fault : T (not (is 5 (d .state))) → gate (d .state) (alive d) ≤ 2
+  no-brake-outside-fault t =
+      no-brake (d .state) (alive d) (subst (λ (f : Flags). T (not (f .critical))) (sym (live-outside-fault t)) tt)
