@@ -1,15 +1,14 @@
 -- Document 01, "What the supervisor covers" and "Gates": what an answer shows of the state.
-use mathlib.Core.Bool.{cond}
 use Prim.Native.Nat.{ℕ}
+use mathlib.Core.Bool.{cond}
 use lib.IntN.{ℤ, pos}
 use lib.Signed.{quotZ}
 use Rattle.numbers.specs.Limit.{limit}
+use Rattle.faults.specs.Word.{bit, any}
 use Rattle.states.specs.States.{numberOf, is, turning}
-use Rattle.settings.specs.Settings.{FaultEnable}
-use Rattle.drive.specs.Flags.{live, any, word}
-use Rattle.drive.specs.declared.Drive.{Drive}
 use Rattle.states.specs.declared.State.{State}
-use Rattle.drive.specs.declared.flags.Flags.{Flags}
+use Rattle.drive.specs.Flags.{alive}
+use Rattle.drive.specs.declared.Drive.{Drive}
 use Rattle.drive.specs.declared.answer.Answer.{Answer}
 use Rattle.drive.specs.declared.answer.Reply.{Reply}
 
@@ -18,12 +17,12 @@ abbrev pub gateOf : State → ℕ
 gateOf state = cond (is 3 state) 1 (cond (turning state) 2 0)
 
 -- "live bit 0, off (0); else live bit 1, all low sides on (3); else any live flag, off; else .."
-abbrev pub gate : State → Flags → ℕ
-gate state alive = cond (alive .kill) 0 (cond (alive .critical) 3 (cond (any alive) 0 (gateOf state)))
+abbrev pub gate : State → ℕ → ℕ
+gate state live = cond (bit 0 live) 0 (cond (bit 1 live) 3 (cond (any live) 0 (gateOf state)))
 
--- the flags of the drive that are live; "The live word" is theirs
-abbrev pub alive : Drive → Flags
-alive d = live (FaultEnable (d .settings)) (d .flags)
+-- "The live word": the flags of the drive that are live
+abbrev pub liveWord : Drive → ℕ
+liveWord d = alive (d .settings) (d .flags)
 
 -- "Reported divided by 2048, rounded toward zero"; "reference and angle are signed 16-bit"
 abbrev pub reported : ℤ → ℤ
@@ -36,8 +35,8 @@ answer number place d =
       number = number;
       place = place;
       state = numberOf (d .state);
-      gate = gate (d .state) (alive d);
-      live = word (alive d);
+      gate = gate (d .state) (liveWord d);
+      live = liveWord d;
       reference = reported (d .run .reference);
       position = d .hall .position;
       angle = d .hall .angle;

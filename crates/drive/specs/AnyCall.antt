@@ -1,7 +1,9 @@
--- Document 01: any of the three calls, and what it replies. How "sequences hand each call the state that the call before left" is `history`'s.
+-- Document 01: any of the three calls, and what it replies. How "sequences hand each call the state that the call before left" stands in
+-- `theorems_history`.
 use mathlib.Core.List.{List}
 use Prim.Native.Nat.{ℕ}
-use Rattle.drive.specs.Calls.{load, cycle, tick}
+use Rattle.drive.specs.Calls.{load, cycle}
+use Rattle.drive.specs.Ticks.{tick}
 use Rattle.drive.specs.declared.Drive.{Drive}
 use Rattle.fields.specs.declared.Cycle.{Cycle}
 use Rattle.fields.specs.declared.Tick.{Tick}

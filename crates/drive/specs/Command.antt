@@ -1,4 +1,5 @@
--- Document 01, "Command": "Mode 0: low is command 0, high is command 1. Mode 1: low is control at most CmdStop, high is control at least CmdStart."
+-- Document 01, "Command": "Mode 0: low is command 0, high is command 1. Mode 1: low is control at most CmdStop, high is control at
+-- least CmdStart."
 use Prim.Native.Nat.{ℕ}
 use mathlib.Core.Bool.{Bool, cond}
 use mathlib.Core.List.{List}

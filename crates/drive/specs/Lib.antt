@@ -5,4 +5,5 @@ pub mod Answer
 pub mod Causes
 pub mod Refusals
 pub mod Calls
+pub mod Ticks
 pub mod AnyCall

@@ -5,6 +5,7 @@ use mathlib.Core.List.{List, _∷_}
 use lib.Dec.{eqb}
 use lib.ListN.{length}
 use Rattle.verdicts.specs.Table.{Row, row}
+use Rattle.settings.specs.Settings.{settingCount}
 use Rattle.settings.specs.Rules.{settingRows}
 use Rattle.states.specs.States.{is}
 use Rattle.fields.specs.Fields.{cycleFields, tickFields}
@@ -12,9 +13,13 @@ use Rattle.fields.specs.declared.Cycle.{Cycle}
 use Rattle.fields.specs.declared.Tick.{Tick}
 use Rattle.drive.specs.declared.Drive.{Drive}
 
+-- "Hall pattern 0..7"
+abbrev pub highestPattern : ℕ
+highestPattern = 7
+
 -- rows 3, "cycle or tick in IDLE", and 1, "cycle or tick field out of range"; "3 before 1"
 abbrev pub cycleRows : Drive → Cycle → List Row
-cycleRows d c = row 3 0 (is 0 (d .state)) ∷ cycleFields c
+cycleRows d c = row 3 0 (is 0 (d .state)) ∷ cycleFields highestPattern c
 
 abbrev pub tickRows : Drive → Tick → List Row
 tickRows d t = row 3 0 (is 0 (d .state)) ∷ tickFields t
@@ -24,5 +29,5 @@ tickRows d t = row 3 0 (is 0 (d .state)) ∷ tickFields t
 abbrev pub loadRows : Drive → List ℕ → List Row
 loadRows d numbers =
     row 4 0 (not (is 0 (d .state) || is 1 (d .state)))
-    ∷ row 2 0 (not (eqb (length numbers) 24))
+    ∷ row 2 0 (not (eqb (length numbers) settingCount))
     ∷ settingRows numbers

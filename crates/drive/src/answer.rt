@@ -1,12 +1,13 @@
 // What a call answers.
 use crate::Drive;
-use crate::choose::pick_u8;
-use crate::flags::Flags;
+use crate::flags::alive;
 use crate::offsets::Pair;
-use settings::FAULT_ENABLE;
 use states::State;
+use verdicts::Verdict;
 ghost use mathlib.Core.Path.{_≡_};
+ghost use mathlib.Core.Bool.{cond};
 ghost use Rattle.drive.specs.Answer.{gateOf, gate, reported, answer, reply};
+ghost use Rattle.drive.specs.Calls.{settle};
 
 pub struct Answer {
     pub number: u8,
@@ -26,17 +27,25 @@ pub struct Reply {
     pub answer: Answer,
 }
 
+// A choice by a test: the code's form of the definitions' `cond`, so that the two read alike.
+fn pick_u8(test: bool, yes: u8, no: u8) -> u8
+    ensures { λ r. ⌜ r ≡ cond test yes no ⌝ }
+{
+    if test { yes } else { no }
+}
+
 fn gate_of(state: State) -> u8
     ensures { λ r. ⌜ r ≡ gateOf state ⌝ }
 {
     pick_u8(state.number() == 3, 1, pick_u8(state.is_turning(), 2, 0))
 }
 
-fn gate(state: State, alive: Flags) -> u8
-    ensures { λ r. ⌜ r ≡ gate state alive ⌝ }
+fn gate(state: State, live: u16) -> u8
+    ensures { λ r. ⌜ r ≡ gate state live ⌝ }
 {
-    let shut = pick_u8(alive.any(), 0, gate_of(state));
-    pick_u8(alive.kill, 0, pick_u8(alive.critical, 3, shut))
+    let shut = pick_u8(live != 0, 0, gate_of(state));
+    let braked = pick_u8(live / 2 % 2 == 1, 3, shut);
+    pick_u8(live % 2 == 1, 0, braked)
 }
 
 fn reported(reference: i32) -> i16
@@ -49,17 +58,17 @@ fn reported(reference: i32) -> i16
 pub fn answered(drive: Drive, number: u8, place: u8) -> Answer
     ensures { λ r. ⌜ r ≡ answer number place drive ⌝ }
 {
-    let settings = drive.settings;
-    let alive = drive.flags.live(settings[FAULT_ENABLE]);
     let state = drive.state;
     let run = drive.run;
     let offsets = drive.offsets.value;
+    let settings = drive.settings;
+    let live = alive(settings, drive.flags);
     Answer {
         number,
         place,
         state: state.number(),
-        gate: gate(state, alive),
-        live: alive.word(),
+        gate: gate(state, live),
+        live,
         reference: reported(run.reference),
         position: drive.hall.position,
         angle: drive.hall.angle,
@@ -68,9 +77,19 @@ pub fn answered(drive: Drive, number: u8, place: u8) -> Answer
     }
 }
 
-pub(crate) fn replied(drive: Drive, number: u8, place: u8) -> Reply
+fn replied(drive: Drive, number: u8, place: u8) -> Reply
     ensures { λ r. ⌜ r ≡ reply number place drive ⌝ }
 {
     let answer = answered(drive, number, place);
     Reply { drive, answer }
+}
+
+// What a call comes to: the next state where nothing refuses it, and else the state that the refusal leaves.
+pub(crate) fn settle(verdict: Verdict, next: Drive, left: Drive) -> Reply
+    ensures { λ r. ⌜ r ≡ settle verdict next left ⌝ }
+{
+    if verdict.number == 0 {
+        return replied(next, 0, 0);
+    }
+    replied(left, verdict.number, verdict.place)
 }

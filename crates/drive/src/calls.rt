@@ -1,86 +1,93 @@
-// Power-up, and the three calls that change the state.
+// Power-up, load and cycle.
 use crate::Drive;
 use crate::answer::Reply;
-use crate::answer::replied;
-use crate::flags::NONE;
+use crate::answer::settle;
+use crate::flags::HALL_PATTERN;
 use crate::offsets::Offsets;
 use crate::offsets::UNMEASURED;
+use crate::offsets::pick_offsets;
 use crate::refusals::awake;
+use crate::refusals::loadable;
+use faults::flag;
 use fields::Cycle;
 use hall::POWERED_UP;
-use motor::STILL;
+use motor::AT_REST;
 use numbers::count_up;
 use numbers::signed;
 use settings::HALL_ANGLE_OFFSET;
 use settings::OFFSET_PSC;
+use settings::SETTING_COUNT;
 use settings::samples;
 use states::State;
-ghost use mathlib.Core.Bool.{cond};
+use verdicts::Verdict;
 ghost use mathlib.Core.Path.{_≡_};
 ghost use lib.ListN.{length};
+ghost use Rattle.settings.specs.Settings.{settingCount};
 ghost use Rattle.drive.specs.Calls.{fresh, powerUp, load, summed, cycled, cycle};
 
-fn fresh(state: State, settings: [u16; 24]) -> Drive
+// The highest pattern of three Hall sensors.
+const HIGHEST_PATTERN: u8 = 7;
+
+fn fresh(state: State, settings: [u16; SETTING_COUNT]) -> Drive
     ensures { λ r. ⌜ r ≡ fresh state settings ⌝ }
 {
     Drive {
         state,
         settings,
         hall: POWERED_UP,
-        flags: NONE,
+        flags: 0,
         cycles: 0,
         ticks: 0,
         offsets: UNMEASURED,
-        run: STILL,
+        run: AT_REST,
         armed: false,
         retries: 0,
     }
 }
 
-// The 24 numbers of a load as the array that the state keeps.
-fn copied(numbers: &[u16]) -> [u16; 24]
-    requires { ⌜ length (now numbers) ≡ 24 ⌝ }
+// The numbers of a load as the array that the state keeps.
+fn copied(numbers: &[u16]) -> [u16; SETTING_COUNT]
+    requires { ⌜ length (now numbers) ≡ settingCount ⌝ }
     ensures { λ r. ⌜ r ≡ now (numbers .entry) ⌝ }
 {
-    let mut settings = [0u16; 24];
+    let mut settings = [0u16; SETTING_COUNT];
     let mut i: usize = 0;
-    while i < 24 {
+    while i < SETTING_COUNT {
         settings[i] = numbers[i];
         i += 1;
     }
     settings
 }
 
-pub(crate) fn pick_offsets(test: bool, yes: Offsets, no: Offsets) -> Offsets
-    ensures { λ r. ⌜ r ≡ cond test yes no ⌝ }
-{
-    if test { yes } else { no }
-}
-
 impl Drive {
     pub fn power_up() -> Self
         ensures { λ r. ⌜ r ≡ powerUp ⌝ }
     {
-        fresh(State::Idle, [0u16; 24])
+        fresh(State::Idle, [0u16; SETTING_COUNT])
     }
 
+    // A load of any numbers, lent by the caller.
     pub fn load(self, numbers: &[u16]) -> Reply
         ensures { λ r. ⌜ r ≡ load self (now (numbers .entry)) ⌝ }
     {
+        if numbers.len() == SETTING_COUNT {
+            return self.load_settings(copied(numbers));
+        }
         let state = self.state;
-        let n = state.number();
-        if !((n == 0) | (n == 1)) {
-            return replied(self, 4, 0);
-        }
-        if numbers.len() != 24 {
-            return replied(self, 2, 0);
-        }
-        let settings = copied(numbers);
-        let verdict = settings::verdict(settings);
-        if verdict.number != 0 {
-            return replied(self, verdict.number, verdict.place);
-        }
-        replied(fresh(State::Stop, settings), 0, 0)
+        let wrong_length = Verdict {
+            number: 2,
+            place: 0,
+        };
+        settle(loadable(state, wrong_length), self, self)
+    }
+
+    // A load of as many numbers as there are settings, for a caller that has them in an array.
+    pub fn load_settings(self, settings: [u16; SETTING_COUNT]) -> Reply
+        ensures { λ r. ⌜ r ≡ load self settings ⌝ }
+    {
+        let state = self.state;
+        let verdict = loadable(state, settings::verdict(settings));
+        settle(verdict, fresh(State::Stop, settings), self)
     }
 
     fn summed(self, cycle: Cycle) -> Offsets
@@ -99,23 +106,16 @@ impl Drive {
     fn cycled(self, cycle: Cycle) -> Drive
         ensures { λ r. ⌜ r ≡ cycled self cycle ⌝ }
     {
-        let state = self.state;
         let settings = self.settings;
-        let run = self.run;
         let offset = signed(settings[HALL_ANGLE_OFFSET]);
         let sampled = self.hall.sampled(cycle.pattern, offset);
         let hall = sampled.hall;
         Drive {
-            state,
-            settings,
             hall,
-            flags: self.flags.with_hall(sampled.flagged),
+            flags: self.flags | flag(HALL_PATTERN, sampled.flagged),
             cycles: count_up(self.cycles, 65535),
-            ticks: self.ticks,
             offsets: self.summed(cycle),
-            run,
-            armed: self.armed,
-            retries: self.retries,
+            ..self
         }
     }
 
@@ -123,10 +123,7 @@ impl Drive {
         ensures { λ r. ⌜ r ≡ cycle self fields ⌝ }
     {
         let state = self.state;
-        let verdict = awake(state, fields.verdict());
-        if verdict.number != 0 {
-            return replied(self, verdict.number, verdict.place);
-        }
-        replied(self.cycled(fields), 0, 0)
+        let verdict = awake(state, fields.verdict(HIGHEST_PATTERN));
+        settle(verdict, self.cycled(fields), self)
     }
 }

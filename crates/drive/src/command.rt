@@ -1,13 +1,20 @@
 // The command, in both modes.
-use crate::choose::pick_bool;
 use fields::Tick;
 use settings::CMD_START;
 use settings::CMD_STOP;
 use settings::CONTROL_MODE;
+use settings::SETTING_COUNT;
+ghost use mathlib.Core.Bool.{cond};
 ghost use mathlib.Core.Path.{_≡_};
 ghost use Rattle.drive.specs.Command.{low, high};
 
-pub(crate) fn low(settings: [u16; 24], tick: Tick) -> bool
+fn pick_bool(test: bool, yes: bool, no: bool) -> bool
+    ensures { λ r. ⌜ r ≡ cond test yes no ⌝ }
+{
+    if test { yes } else { no }
+}
+
+pub(crate) fn low(settings: [u16; SETTING_COUNT], tick: Tick) -> bool
     ensures { λ r. ⌜ r ≡ low settings tick ⌝ }
 {
     pick_bool(
@@ -17,7 +24,7 @@ pub(crate) fn low(settings: [u16; 24], tick: Tick) -> bool
     )
 }
 
-pub(crate) fn high(settings: [u16; 24], tick: Tick) -> bool
+pub(crate) fn high(settings: [u16; SETTING_COUNT], tick: Tick) -> bool
     ensures { λ r. ⌜ r ≡ high settings tick ⌝ }
 {
     pick_bool(

@@ -1,123 +1,33 @@
-// The flags of the fault word. Only these nine of its sixteen bits are ever set.
-
-ghost use mathlib.Core.Bool.{cond};
+// The flags of the fault word: only these nine of its sixteen bits are ever set.
+use faults::live;
+use settings::FAULT_ENABLE;
+use settings::SETTING_COUNT;
 ghost use mathlib.Core.Path.{_≡_};
-ghost use Prim.Native.Nat.{_≤_};
-ghost use Rattle.drive.specs.Flags.{either, live, withHall, any, word};
+ghost use Rattle.drive.specs.Flags.{alive};
 
-pub struct Flags {
-    pub kill: bool, // 0: gate kill
-    pub critical: bool, // 1: VdcRaw above CriticalOvLevel
-    pub over: bool, // 2: VdcFilt above VdcOvLevel
-    pub under: bool, // 3: VdcFilt below VdcLvLevel
-    pub flux: bool, // 4: eight bad flux slots in a row
-    pub heat: bool, // 6: temperature above Tshutdown
-    pub lock: bool, // 7: rotor lock
-    pub timeout: bool, // 14: Hall time-out
-    pub hall: bool, // 15: Hall pattern
-}
+pub(crate) const GATE_KILL: u16 = 1; // bit 0
 
-pub(crate) const NONE: Flags = Flags {
-    kill: false,
-    critical: false,
-    over: false,
-    under: false,
-    flux: false,
-    heat: false,
-    lock: false,
-    timeout: false,
-    hall: false,
-};
+pub(crate) const CRITICAL_OVER_VOLTAGE: u16 = 2; // bit 1: VdcRaw above CriticalOvLevel
 
-impl Flags {
-    // The flags of both.
-    pub(crate) fn either(self, other: Flags) -> Flags
-        ensures { λ r. ⌜ r ≡ either self other ⌝ }
-    {
-        Flags {
-            kill: self.kill | other.kill,
-            critical: self.critical | other.critical,
-            over: self.over | other.over,
-            under: self.under | other.under,
-            flux: self.flux | other.flux,
-            heat: self.heat | other.heat,
-            lock: self.lock | other.lock,
-            timeout: self.timeout | other.timeout,
-            hall: self.hall | other.hall,
-        }
-    }
+pub(crate) const OVER_VOLTAGE: u16 = 4; // bit 2: VdcFilt above VdcOvLevel
 
-    // Those that the mask lets live; 0 and 1 always do.
-    pub(crate) fn live(self, mask: u16) -> Flags
-        ensures { λ r. ⌜ r ≡ live mask self ⌝ }
-    {
-        Flags {
-            kill: self.kill,
-            critical: self.critical,
-            over: self.over & (mask / 4 % 2 == 1),
-            under: self.under & (mask / 8 % 2 == 1),
-            flux: self.flux & (mask / 16 % 2 == 1),
-            heat: self.heat & (mask / 64 % 2 == 1),
-            lock: self.lock & (mask / 128 % 2 == 1),
-            timeout: self.timeout & (mask / 16384 % 2 == 1),
-            hall: self.hall & (mask / 32768 % 2 == 1),
-        }
-    }
+pub(crate) const UNDER_VOLTAGE: u16 = 8; // bit 3: VdcFilt below VdcLvLevel
 
-    // Flag 15 set besides, where the Hall sample sets it.
-    pub(crate) fn with_hall(self, set: bool) -> Flags
-        ensures { λ r. ⌜ r ≡ withHall set self ⌝ }
-    {
-        Flags {
-            kill: self.kill,
-            critical: self.critical,
-            over: self.over,
-            under: self.under,
-            flux: self.flux,
-            heat: self.heat,
-            lock: self.lock,
-            timeout: self.timeout,
-            hall: self.hall | set,
-        }
-    }
+pub(crate) const FLUX: u16 = 16; // bit 4: eight bad flux slots in a row
 
-    pub(crate) fn any(self) -> bool
-        ensures { λ r. ⌜ r ≡ any self ⌝ }
-    {
-        self.kill
-            | self.critical
-            | self.over
-            | self.under
-            | self.flux
-            | self.heat
-            | self.lock
-            | self.timeout
-            | self.hall
-    }
+pub(crate) const OVER_TEMPERATURE: u16 = 64; // bit 6: temperature above Tshutdown
 
-    // Whether one of them is live under the mask.
-    pub(crate) fn alight(self, mask: u16) -> bool
-        ensures { λ r. ⌜ r ≡ any (live mask self) ⌝ }
-    {
-        self.live(mask).any()
-    }
+pub(crate) const ROTOR_LOCK: u16 = 128; // bit 7
 
-    // The word of 16 bits.
-    pub(crate) fn word(self) -> u16
-        ensures { λ r. ⌜ r ≡ word self ⌝ }
-    {
-        let low = bit(self.kill, 1)
-            + bit(self.critical, 2)
-            + bit(self.over, 4)
-            + bit(self.under, 8);
-        let middle = bit(self.flux, 16) + bit(self.heat, 64) + bit(self.lock, 128);
-        low + middle + bit(self.timeout, 16384) + bit(self.hall, 32768)
-    }
-}
+pub(crate) const HALL_TIMEOUT: u16 = 16384; // bit 14
 
-fn bit(set: bool, weight: u16) -> u16
-    ensures value { λ r. ⌜ r ≡ cond set weight 0 ⌝ }
-    ensures bound { λ r. ⌜ r ≤ weight ⌝ }
+pub(crate) const HALL_PATTERN: u16 = 32768; // bit 15
+
+// Bits 0 and 1, whatever the mask.
+const ALWAYS_LIVE: u16 = 3;
+
+pub(crate) fn alive(settings: [u16; SETTING_COUNT], flags: u16) -> u16
+    ensures { λ r. ⌜ r ≡ alive settings flags ⌝ }
 {
-    if set { weight } else { 0 }
+    live(ALWAYS_LIVE, settings[FAULT_ENABLE], flags)
 }

@@ -2,25 +2,24 @@
 pub mod answer;
 mod calls;
 mod causes;
-mod choose;
 mod command;
-pub mod flags;
+mod flags;
 pub mod offsets;
 mod refusals;
 mod ticks;
 
-use flags::Flags;
 use hall::Hall;
 use motor::Run;
 use offsets::Offsets;
+use settings::SETTING_COUNT;
 use states::State;
 
 // The state of the drive. Its 24 settings stand as loaded; no cycle and no tick changes them.
 pub struct Drive {
     pub state: State,
-    pub settings: [u16; 24],
+    pub settings: [u16; SETTING_COUNT],
     pub hall: Hall,
-    pub flags: Flags,
+    pub flags: u16,
     pub cycles: u32,
     pub ticks: u32,
     pub offsets: Offsets,

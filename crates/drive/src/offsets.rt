@@ -1,5 +1,6 @@
 // The offsets of the two current samples, measured in OFFSETCAL.
 use std::num::wrapping_add_u32;
+ghost use mathlib.Core.Bool.{cond};
 ghost use mathlib.Core.Path.{_≡_};
 ghost use Prim.Native.Nat.{_<_};
 ghost use Rattle.drive.specs.Offsets.{added, measuredBy, cleared};
@@ -27,21 +28,22 @@ pub(crate) const UNMEASURED: Offsets = Offsets {
     sum: ZERO,
 };
 
+pub(crate) fn pick_offsets(test: bool, yes: Offsets, no: Offsets) -> Offsets
+    ensures { λ r. ⌜ r ≡ cond test yes no ⌝ }
+{
+    if test { yes } else { no }
+}
+
 impl Offsets {
     pub(crate) fn added(self, first: u16, second: u16) -> Offsets
         ensures { λ r. ⌜ r ≡ added first second self ⌝ }
     {
-        let value = self.value;
         let old = self.sum;
         let sum = Pair {
             first: wrapping_add_u32(old.first, first as u32),
             second: wrapping_add_u32(old.second, second as u32),
         };
-        Offsets {
-            measured: self.measured,
-            value,
-            sum,
-        }
+        Offsets { sum, ..self }
     }
 
     pub(crate) fn measured_by(self, n: u32) -> Offsets
@@ -63,12 +65,6 @@ impl Offsets {
     pub(crate) fn cleared(self) -> Offsets
         ensures { λ r. ⌜ r ≡ cleared self ⌝ }
     {
-        let value = self.value;
-        let sum = ZERO;
-        Offsets {
-            measured: self.measured,
-            value,
-            sum,
-        }
+        Offsets { sum: ZERO, ..self }
     }
 }

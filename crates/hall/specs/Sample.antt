@@ -15,7 +15,7 @@ use Rattle.hall.specs.declared.fate.Kept.the-variants.{Nothing, Pattern}
 
 -- "Power-up is IDLE, all zero." "Before any pattern [the angle] is 0, without offset."
 abbrev pub poweredUp : Hall
-poweredUp = record { kept = Nothing; position = 0; angle = pos 0; dead = 0; stray = 0; still = 0 }
+poweredUp = record { kept = Nothing; position = 0; angle = pos 0; «dead_streak» = 0; «stray_streak» = 0; «still_count» = 0 }
 
 -- "position plus or minus 1"; "The position counter runs modulo 2^32."
 abbrev pub plusOne : ℕ → ℕ
@@ -28,7 +28,7 @@ minusOne position = (position + (2 ^ 32 - 1)) % 2 ^ 32
 abbrev pub keeps : Fate → ℕ → ℕ → ℤ → Sampled
 keeps fate pattern position angle =
     record {
-      hall = record { kept = Pattern pattern; position = position; angle = angle; dead = 0; stray = 0; still = 0 };
+      hall = record { kept = Pattern pattern; position = position; angle = angle; «dead_streak» = 0; «stray_streak» = 0; «still_count» = 0 };
       fate = fate;
       flagged = false;
     }
@@ -42,9 +42,9 @@ rests hall fate kept dead stray flagged =
             kept = kept;
             position = hall .position;
             angle = hall .angle;
-            dead = dead;
-            stray = stray;
-            still = up 4096 (hall .still);
+            «dead_streak» = dead;
+            «stray_streak» = stray;
+            «still_count» = up 4096 (hall .«still_count»);
           };
       fate = fate;
       flagged = flagged;
@@ -58,14 +58,14 @@ number (Pattern p) = p
 -- "0 or 7: dead streak up by one, at most 2; stray streak zero. At 2, flag 15 is set and the kept pattern is forgotten."
 unfoldable pub deadSample : Hall → Sampled
 deadSample hall =
-    let dead : ℕ = up 2 (hall .dead) in
+    let dead : ℕ = up 2 (hall .«dead_streak») in
     let at2 : Bool = eqb dead 2 in
     rests hall Dead (cond at2 Nothing (hall .kept)) dead 0 at2
 
 -- "Another of 1..6: stray streak up, dead streak zero. At 3, flag 15 is set, the pattern is forgotten and the stray streak returns to zero."
 unfoldable pub straySample : Hall → Sampled
 straySample hall =
-    let stray : ℕ = up 3 (hall .stray) in
+    let stray : ℕ = up 3 (hall .«stray_streak») in
     let at3 : Bool = eqb stray 3 in
     rests hall Stray (cond at3 Nothing (hall .kept)) 0 (cond at3 0 stray) at3
 

@@ -17,9 +17,9 @@ pub struct Hall {
     pub kept: Kept,
     pub position: u32,
     pub angle: i16,
-    pub dead: u32,
-    pub stray: u32,
-    pub still: u32,
+    pub dead_streak: u32,
+    pub stray_streak: u32,
+    pub still_count: u32,
 }
 
 // No pattern kept, and all else zero.
@@ -27,9 +27,9 @@ pub const POWERED_UP: Hall = Hall {
     kept: Kept::Nothing,
     position: 0,
     angle: 0,
-    dead: 0,
-    stray: 0,
-    still: 0,
+    dead_streak: 0,
+    stray_streak: 0,
+    still_count: 0,
 };
 
 // What a sample gives: the next Hall part, what became of the sample, and whether it sets flag 15.
@@ -46,9 +46,9 @@ fn keeps(fate: Fate, pattern: u8, position: u32, angle: i16) -> Sampled
         kept: Kept::Pattern(pattern),
         position,
         angle,
-        dead: 0,
-        stray: 0,
-        still: 0,
+        dead_streak: 0,
+        stray_streak: 0,
+        still_count: 0,
     };
     Sampled {
         hall,
@@ -105,7 +105,7 @@ impl Hall {
     fn dead_sample(self) -> Sampled
         ensures { λ r. ⌜ r ≡ deadSample self ⌝ }
     {
-        let dead = numbers::count_up(self.dead, 2);
+        let dead = numbers::count_up(self.dead_streak, 2);
         if dead == 2 {
             return self.rests(Fate::Dead, Kept::Nothing, dead, 0, true);
         }
@@ -116,7 +116,7 @@ impl Hall {
     fn stray_sample(self) -> Sampled
         ensures { λ r. ⌜ r ≡ straySample self ⌝ }
     {
-        let stray = numbers::count_up(self.stray, 3);
+        let stray = numbers::count_up(self.stray_streak, 3);
         if stray == 3 {
             return self.rests(Fate::Stray, Kept::Nothing, 0, 0, true);
         }
@@ -127,14 +127,14 @@ impl Hall {
     fn rests(self, fate: Fate, kept: Kept, dead: u32, stray: u32, flagged: bool) -> Sampled
         ensures { λ r. ⌜ r ≡ rests self fate kept dead stray flagged ⌝ }
     {
-        let still = numbers::count_up(self.still, 4096);
+        let still = numbers::count_up(self.still_count, 4096);
         let hall = Hall {
             kept,
             position: self.position,
             angle: self.angle,
-            dead,
-            stray,
-            still,
+            dead_streak: dead,
+            stray_streak: stray,
+            still_count: still,
         };
         Sampled {
             hall,

@@ -12,8 +12,8 @@ use Rattle.motor.specs.declared.Run.{Run}
 use Rattle.motor.specs.declared.Watched.{Watched}
 
 -- "from zero at each entry"; "other states hold 0"
-abbrev pub still : Run
-still = record { slots = record { ticks = 0; bad = false; row = 0 }; lock = 0; still = 0; reference = pos 0 }
+abbrev pub atRest : Run
+atRest = record { slots = record { ticks = 0; bad = false; «bad_slots» = 0 }; «rotor_lock_ticks» = 0; «hall_still_ticks» = 0; reference = pos 0 }
 
 -- 4: "slots of floor(5 x FluxFaultTime / 4) ticks"
 abbrev pub slotLength : ℕ → ℕ
@@ -33,12 +33,12 @@ nextSlots length badTick s =
     record {
       ticks = cond (ends length s) 0 (up length (s .ticks));
       bad = (s .bad || badTick) && not (ends length s);
-      row = cond (ends length s) (cond (s .bad || badTick) (up 8 (s .row)) 0) (s .row);
+      «bad_slots» = cond (ends length s) (cond (s .bad || badTick) (up 8 (s .«bad_slots»)) 0) (s .«bad_slots»);
     }
 
 -- "It stands at the end of the eighth consecutive bad slot, and of each bad one following."
 abbrev pub fluxStands : ℕ → Bool → Slots → Bool
-fluxStands length badTick s = ends length s && (s .bad || badTick) && eqb (up 8 (s .row)) 8
+fluxStands length badTick s = ends length s && (s .bad || badTick) && eqb (up 8 (s .«bad_slots»)) 8
 
 -- a condition "for [limit] consecutive ticks, and while this goes on": the count, and whether it stands
 abbrev pub lasting : ℕ → Bool → ℕ → ℕ
@@ -49,17 +49,17 @@ lasts limit holds count = holds && eqb (up limit count) limit
 
 -- 7: "the absolute TrqRef is at least MotorLim and the absolute speed lies in MinSpd..4095"
 abbrev pub locked : List ℕ → Tick → Bool
-locked s t = leb (MotorLim s) (natAbs (t .torque)) && leb (MinSpd s) (natAbs (t .speed)) && leb (natAbs (t .speed)) 4095
+locked s t = leb (MotorLim s) (natAbs (t .«trq_ref»)) && leb (MinSpd s) (natAbs (t .speed)) && leb (natAbs (t .speed)) 4095
 
 -- one tick taken in MOTORRUN: the counts after it, and which of the three causes stand; 7: "for 10 x RotorLockTime consecutive ticks";
 -- 14: "the still count is 4096 for 10 x HallTimeoutPeriod consecutive ticks, and while this goes on"
 unfoldable pub watched : List ℕ → Tick → ℕ → Run → Watched
 watched s t stillCount r =
     record {
-      slots = nextSlots (slotLength (FluxFaultTime s)) (badFlux (t .flux)) (r .slots);
-      lock = lasting (10 * RotorLockTime s) (locked s t) (r .lock);
-      still = lasting (10 * HallTimeoutPeriod s) (eqb stillCount 4096) (r .still);
-      flux = fluxStands (slotLength (FluxFaultTime s)) (badFlux (t .flux)) (r .slots);
-      locked = lasts (10 * RotorLockTime s) (locked s t) (r .lock);
-      timeout = lasts (10 * HallTimeoutPeriod s) (eqb stillCount 4096) (r .still);
+      slots = nextSlots (slotLength (FluxFaultTime s)) (badFlux (t .«flx_m»)) (r .slots);
+      «rotor_lock_ticks» = lasting (10 * RotorLockTime s) (locked s t) (r .«rotor_lock_ticks»);
+      «hall_still_ticks» = lasting (10 * HallTimeoutPeriod s) (eqb stillCount 4096) (r .«hall_still_ticks»);
+      flux = fluxStands (slotLength (FluxFaultTime s)) (badFlux (t .«flx_m»)) (r .slots);
+      locked = lasts (10 * RotorLockTime s) (locked s t) (r .«rotor_lock_ticks»);
+      timeout = lasts (10 * HallTimeoutPeriod s) (eqb stillCount 4096) (r .«hall_still_ticks»);
     }

@@ -7,7 +7,7 @@ use lib.IntN.{ℤ, pos, negℤ, natAbs, _+ℤ_, _-ℤ_, _*ℤ_}
 use lib.Signed.{ltZ}
 use Rattle.settings.specs.Settings.{mode1, MinSpd, SpdRampRate, CmdStart, CmdGain}
 use Rattle.fields.specs.declared.Tick.{Tick}
-use Rattle.motor.specs.Counts.{still}
+use Rattle.motor.specs.Counts.{atRest}
 use Rattle.motor.specs.declared.Run.{Run}
 use Rattle.motor.specs.declared.Watched.{Watched}
 
@@ -41,12 +41,12 @@ ramped s t reference = toward (SpdRampRate s) (times2048 (targetOf s t)) referen
 
 -- "Entering MOTORRUN takes the measured speed."
 abbrev pub starting : Tick → Run
-starting t = record { slots = still .slots; lock = 0; still = 0; reference = times2048 (t .speed) }
+starting t = record { slots = atRest .slots; «rotor_lock_ticks» = 0; «hall_still_ticks» = 0; reference = times2048 (t .speed) }
 
 -- a tick that stays in MOTORRUN: the counts go on, and the reference moves toward the target
 abbrev pub ran : List ℕ → Tick → Watched → Run → Run
-ran s t w r = record { slots = w .slots; lock = w .lock; still = w .still; reference = ramped s t (r .reference) }
+ran s t w r = record { slots = w .slots; «rotor_lock_ticks» = w .«rotor_lock_ticks»; «hall_still_ticks» = w .«hall_still_ticks»; reference = ramped s t (r .reference) }
 
 -- after a tick that stays in MOTORRUN, or that enters it; "other states hold 0"
 abbrev pub after : List ℕ → Tick → Watched → Bool → Bool → Run → Run
-after s t w stays enters r = cond stays (ran s t w r) (cond enters (starting t) still)
+after s t w stays enters r = cond stays (ran s t w r) (cond enters (starting t) atRest)

@@ -11,6 +11,7 @@ use settings::HALL_TIMEOUT_PERIOD;
 use settings::MIN_SPD;
 use settings::MOTOR_LIM;
 use settings::ROTOR_LOCK_TIME;
+use settings::SETTING_COUNT;
 ghost use mathlib.Core.Path.{_≡_};
 ghost use Prim.Native.Nat.{_*_};
 ghost use Rattle.motor.specs.Counts.{slotLength, badFlux, nextSlots, fluxStands, lasting, lasts, locked, watched};
@@ -40,11 +41,11 @@ impl Slots {
         let ticks = count_up(self.ticks, length);
         let ends = ticks == length;
         let bad = self.bad | bad_tick;
-        let row = pick_u32(bad, count_up(self.row, 8), 0);
+        let row = pick_u32(bad, count_up(self.bad_slots, 8), 0);
         Slots {
             ticks: pick_u32(ends, 0, ticks),
             bad: bad & !ends,
-            row: pick_u32(ends, row, self.row),
+            bad_slots: pick_u32(ends, row, self.bad_slots),
         }
     }
 
@@ -52,7 +53,7 @@ impl Slots {
         ensures { λ r. ⌜ r ≡ fluxStands length «bad_tick» self ⌝ }
     {
         let ends = count_up(self.ticks, length) == length;
-        ends & (self.bad | bad_tick) & (count_up(self.row, 8) == 8)
+        ends & (self.bad | bad_tick) & (count_up(self.bad_slots, 8) == 8)
     }
 }
 
@@ -68,21 +69,21 @@ fn lasts(limit: u32, holds: bool, count: u32) -> bool
     holds & (count_up(count, limit) == limit)
 }
 
-fn locked(settings: [u16; 24], tick: Tick) -> bool
+fn locked(settings: [u16; SETTING_COUNT], tick: Tick) -> bool
     ensures { λ r. ⌜ r ≡ locked settings tick ⌝ }
 {
-    let torque = absolute(tick.torque);
+    let torque = absolute(tick.trq_ref);
     let speed = absolute(tick.speed);
     (settings[MOTOR_LIM] <= torque) & (settings[MIN_SPD] <= speed) & (speed <= 4095)
 }
 
 impl Run {
     // One tick taken in MOTORRUN.
-    pub fn watched(self, settings: [u16; 24], tick: Tick, still_count: u32) -> Watched
+    pub fn watched(self, settings: [u16; SETTING_COUNT], tick: Tick, still_count: u32) -> Watched
         ensures { λ r. ⌜ r ≡ watched settings tick «still_count» self ⌝ }
     {
         let length = slot_length(settings[FLUX_FAULT_TIME]);
-        let bad_tick = bad_flux(tick.flux);
+        let bad_tick = bad_flux(tick.flx_m);
         let lock_limit = ten_times(settings[ROTOR_LOCK_TIME]);
         let is_locked = locked(settings, tick);
         let still_limit = ten_times(settings[HALL_TIMEOUT_PERIOD]);
@@ -91,11 +92,11 @@ impl Run {
         let slots = old.next(length, bad_tick);
         Watched {
             slots,
-            lock: lasting(lock_limit, is_locked, self.lock),
-            still: lasting(still_limit, is_still, self.still),
+            rotor_lock_ticks: lasting(lock_limit, is_locked, self.rotor_lock_ticks),
+            hall_still_ticks: lasting(still_limit, is_still, self.hall_still_ticks),
             flux: old.flux_stands(length, bad_tick),
-            locked: lasts(lock_limit, is_locked, self.lock),
-            timeout: lasts(still_limit, is_still, self.still),
+            locked: lasts(lock_limit, is_locked, self.rotor_lock_ticks),
+            timeout: lasts(still_limit, is_still, self.hall_still_ticks),
         }
     }
 }

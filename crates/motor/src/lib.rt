@@ -7,21 +7,21 @@ mod reference;
 pub struct Slots {
     pub ticks: u32,
     pub bad: bool,
-    pub row: u32,
+    pub bad_slots: u32,
 }
 
 pub struct Run {
     pub slots: Slots,
-    pub lock: u32,
-    pub still: u32,
+    pub rotor_lock_ticks: u32,
+    pub hall_still_ticks: u32,
     pub reference: i32,
 }
 
 // The three counts after a tick, and which of their causes stand.
 pub struct Watched {
     pub slots: Slots,
-    pub lock: u32,
-    pub still: u32,
+    pub rotor_lock_ticks: u32,
+    pub hall_still_ticks: u32,
     pub flux: bool,
     pub locked: bool,
     pub timeout: bool,
@@ -30,13 +30,13 @@ pub struct Watched {
 const NO_SLOTS: Slots = Slots {
     ticks: 0,
     bad: false,
-    row: 0,
+    bad_slots: 0,
 };
 
 // What every state but MOTORRUN holds.
-pub const STILL: Run = Run {
+pub const AT_REST: Run = Run {
     slots: NO_SLOTS,
-    lock: 0,
-    still: 0,
+    rotor_lock_ticks: 0,
+    hall_still_ticks: 0,
     reference: 0,
 };

@@ -1,7 +1,7 @@
 // The speed reference, kept times 2048.
 use crate::NO_SLOTS;
 use crate::Run;
-use crate::STILL;
+use crate::AT_REST;
 use crate::Watched;
 use fields::Tick;
 use numbers::absolute;
@@ -9,6 +9,7 @@ use settings::CMD_GAIN;
 use settings::CMD_START;
 use settings::CONTROL_MODE;
 use settings::MIN_SPD;
+use settings::SETTING_COUNT;
 use settings::SPD_RAMP_RATE;
 ghost use mathlib.Core.Path.{_≡_};
 ghost use Prim.Native.Nat.{_<_};
@@ -56,7 +57,7 @@ fn target_1(minimum: u16, start: u16, gain: u16, control: u16) -> u32
 }
 
 // The target of the ramp, in both modes.
-fn target(settings: [u16; 24], tick: Tick) -> i32
+fn target(settings: [u16; SETTING_COUNT], tick: Tick) -> i32
     ensures value { λ r. ⌜ r ≡ targetOf settings tick ⌝ }
     ensures small { λ r. ⌜ mag r < 65536 ⌝ }
 {
@@ -88,7 +89,7 @@ fn toward(rate: u16, target: i32, reference: i32) -> i32
 }
 
 // The reference after a tick that stays in MOTORRUN.
-fn ramped(settings: [u16; 24], tick: Tick, reference: i32) -> i32
+fn ramped(settings: [u16; SETTING_COUNT], tick: Tick, reference: i32) -> i32
     ensures { λ r. ⌜ r ≡ ramped settings tick reference ⌝ }
 {
     toward(
@@ -105,23 +106,23 @@ fn starting(tick: Tick) -> Run
     let slots = NO_SLOTS;
     Run {
         slots,
-        lock: 0,
-        still: 0,
+        rotor_lock_ticks: 0,
+        hall_still_ticks: 0,
         reference: scaled(tick.speed),
     }
 }
 
 impl Run {
     // A tick more in MOTORRUN.
-    fn ran(self, settings: [u16; 24], tick: Tick, watched: Watched) -> Run
+    fn ran(self, settings: [u16; SETTING_COUNT], tick: Tick, watched: Watched) -> Run
         ensures { λ r. ⌜ r ≡ ran settings tick watched self ⌝ }
     {
         let slots = watched.slots;
         let reference = ramped(settings, tick, self.reference);
         Run {
             slots,
-            lock: watched.lock,
-            still: watched.still,
+            rotor_lock_ticks: watched.rotor_lock_ticks,
+            hall_still_ticks: watched.hall_still_ticks,
             reference,
         }
     }
@@ -129,7 +130,7 @@ impl Run {
     // After a tick that stays in MOTORRUN, that enters it, or that ends in another state.
     pub fn after(
         self,
-        settings: [u16; 24],
+        settings: [u16; SETTING_COUNT],
         tick: Tick,
         watched: Watched,
         stays: bool,
@@ -143,6 +144,6 @@ impl Run {
         if enters {
             return starting(tick);
         }
-        STILL
+        AT_REST
     }
 }

@@ -8,6 +8,9 @@ use Rattle.settings.specs.Settings
 use Rattle.states.specs.States.{is, turning}
 use Rattle.states.specs.declared.State.{State}
 use Rattle.states.specs.declared.State.the-variants.{Idle, Stop, OffsetCal, BtsCharge, MotorRun, Fault, CatchSpin, Parking, OpenLoop, AngleSensing}
+use Rattle.faults.specs.Exit.{fromFault}
+use Rattle.faults.specs.declared.Exit.{Exit}
+use Rattle.faults.specs.declared.Exit.the-variants.{Stay as Remain, Clear as ClearAll, Retry as TryAgain}
 use Rattle.moves.specs.declared.Grounds.{Grounds}
 use Rattle.moves.specs.declared.Move.{Move}
 use Rattle.moves.specs.declared.Move.the-variants.{Stay, Enter, Measure, Clear, Retry}
@@ -46,13 +49,11 @@ fromParking s nth = cond (leb (Settings.ParkTime s) nth) (Enter OpenLoop) Stay
 abbrev pub fromOpenLoop : List ℕ → ℕ → Move
 fromOpenLoop s absoluteSpeed = cond (eqb (Settings.OpenLoopRamp s) 0 || leb (Settings.MinSpd s) absoluteSpeed) (Enter MotorRun) Stay
 
--- "5 FAULT: no live cause may stand. Then clear = 1, in either mode (house), [..] to 1. Else in mode 1, from its 10,000th tick on,
--- with fewer than RetryLimit retries used: [..] to 1."
-abbrev pub fromFault : List ℕ → ℕ → ℕ → ℕ → Bool → Move
-fromFault s nth retries clear blocked =
-    cond blocked Stay
-    (cond (eqb clear 1) Clear
-    (cond (Settings.mode1 s && leb 10000 nth && ltb retries (Settings.RetryLimit s)) Retry Stay))
+-- the move out of FAULT, as a move
+abbrev pub outOf : Exit → Move
+outOf Remain = Stay
+outOf ClearAll = Clear
+outOf TryAgain = Retry
 
 -- "Else:" each state's own move; "4 MOTORRUN: stays."; a tick in IDLE is refused
 abbrev pub own : Grounds → State → Move
@@ -61,7 +62,9 @@ own g Stop = fromStop (g .measured) (g .armed) (g .high)
 own g OffsetCal = fromOffsetCal (g .settings) (g .cycles)
 own g BtsCharge = fromBtsCharge (g .settings) (g .cycles)
 own g MotorRun = Stay
-own g Fault = fromFault (g .settings) (g .nth) (g .retries) (g .clear) (g .blocked)
+own g Fault =
+    outOf
+    (fromFault (Settings.mode1 (g .settings)) (Settings.RetryLimit (g .settings)) (g .nth) (g .retries) (g .clear) (g .blocked))
 own g CatchSpin = fromCatchSpin (g .settings) (g .nth) (natAbs (g .speed))
 own g Parking = fromParking (g .settings) (g .nth)
 own g OpenLoop = fromOpenLoop (g .settings) (natAbs (g .speed))

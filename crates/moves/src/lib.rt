@@ -1,4 +1,6 @@
 // The moves: at most one a tick, by the state before it.
+use faults::Exit;
+use faults::from_fault;
 use numbers::absolute;
 use settings::BTS_CHARGE_TIME;
 use settings::CONTROL_MODE;
@@ -9,13 +11,16 @@ use settings::OFFSET_PSC;
 use settings::OPEN_LOOP_RAMP;
 use settings::PARK_TIME;
 use settings::RETRY_LIMIT;
+use settings::SETTING_COUNT;
 use settings::T_CATCH_SPIN;
 use settings::samples;
 use states::State;
 ghost use mathlib.Core.Bool.{cond};
 ghost use mathlib.Core.Path.{_≡_};
 ghost use Prim.Native.Nat.{_*_};
-ghost use Rattle.moves.specs.Moves.{fromStop, fromOffsetCal, fromBtsCharge, fromCatchSpin, fromAngleSensing, fromParking, fromOpenLoop, fromFault, own, moveOf};
+ghost use Rattle.states.specs.declared.State.the-variants.{Fault};
+ghost use Rattle.moves.specs.Moves.{fromStop, fromOffsetCal, fromBtsCharge, fromCatchSpin, fromAngleSensing};
+ghost use Rattle.moves.specs.Moves.{fromParking, fromOpenLoop, outOf, own, moveOf};
 
 // What a tick does to the state: stay, enter another, end OFFSETCAL with the offsets measured, or leave FAULT.
 pub enum Move {
@@ -29,7 +34,7 @@ pub enum Move {
 // What a move is decided by.
 pub struct Grounds {
     pub state: State, // before the tick
-    pub settings: [u16; 24],
+    pub settings: [u16; SETTING_COUNT],
     pub cycles: u32,
     pub measured: bool,
     pub armed: bool,
@@ -62,7 +67,7 @@ fn from_stop(measured: bool, armed: bool, high: bool) -> Move
     pick_move(!measured, Move::Enter(State::OffsetCal), start)
 }
 
-fn from_offset_cal(settings: [u16; 24], cycles: u32) -> Move
+fn from_offset_cal(settings: [u16; SETTING_COUNT], cycles: u32) -> Move
     ensures { λ r. ⌜ r ≡ fromOffsetCal settings cycles ⌝ }
 {
     pick_move(
@@ -72,14 +77,14 @@ fn from_offset_cal(settings: [u16; 24], cycles: u32) -> Move
     )
 }
 
-fn from_bts_charge(settings: [u16; 24], cycles: u32) -> Move
+fn from_bts_charge(settings: [u16; SETTING_COUNT], cycles: u32) -> Move
     ensures { λ r. ⌜ r ≡ fromBtsCharge settings cycles ⌝ }
 {
     let charged = (settings[BTS_CHARGE_TIME] as u32) <= cycles;
     pick_move(charged, Move::Enter(State::CatchSpin), Move::Stay)
 }
 
-fn from_catch_spin(settings: [u16; 24], n: u32, speed: u16) -> Move
+fn from_catch_spin(settings: [u16; SETTING_COUNT], n: u32, speed: u16) -> Move
     ensures { λ r. ⌜ r ≡ fromCatchSpin settings n speed ⌝ }
 {
     let time = settings[T_CATCH_SPIN] as u32;
@@ -93,7 +98,7 @@ fn from_catch_spin(settings: [u16; 24], n: u32, speed: u16) -> Move
     pick_move(time == 0, Move::Enter(State::AngleSensing), ends)
 }
 
-fn from_angle_sensing(settings: [u16; 24], cycles: u32) -> Move
+fn from_angle_sensing(settings: [u16; SETTING_COUNT], cycles: u32) -> Move
     ensures { λ r. ⌜ r ≡ fromAngleSensing settings cycles ⌝ }
 {
     let pulses = settings[IS_PULSES];
@@ -102,31 +107,49 @@ fn from_angle_sensing(settings: [u16; 24], cycles: u32) -> Move
     pick_move(pulses == 0, Move::Enter(State::Parking), ends)
 }
 
-fn from_parking(settings: [u16; 24], n: u32) -> Move
+fn from_parking(settings: [u16; SETTING_COUNT], n: u32) -> Move
     ensures { λ r. ⌜ r ≡ fromParking settings n ⌝ }
 {
     let parked = (settings[PARK_TIME] as u32) <= n;
     pick_move(parked, Move::Enter(State::OpenLoop), Move::Stay)
 }
 
-fn from_open_loop(settings: [u16; 24], speed: u16) -> Move
+fn from_open_loop(settings: [u16; SETTING_COUNT], speed: u16) -> Move
     ensures { λ r. ⌜ r ≡ fromOpenLoop settings speed ⌝ }
 {
     let fast = (settings[OPEN_LOOP_RAMP] == 0) | (settings[MIN_SPD] <= speed);
     pick_move(fast, Move::Enter(State::MotorRun), Move::Stay)
 }
 
-fn from_fault(settings: [u16; 24], n: u32, retries: u32, clear: u8, blocked: bool) -> Move
-    ensures { λ r. ⌜ r ≡ fromFault settings n retries clear blocked ⌝ }
+fn out_of(exit: Exit) -> Move
+    ensures { λ r. ⌜ r ≡ outOf exit ⌝ }
 {
-    let waited = (settings[CONTROL_MODE] == 1) & (10000 <= n);
-    let again = waited & (retries < (settings[RETRY_LIMIT] as u32));
-    let timed = pick_move(again, Move::Retry, Move::Stay);
-    let ends = pick_move(clear == 1, Move::Clear, timed);
-    pick_move(blocked, Move::Stay, ends)
+    match exit {
+        Exit::Stay => Move::Stay,
+        Exit::Clear => Move::Clear,
+        Exit::Retry => Move::Retry,
+    }
 }
 
 impl Grounds {
+    fn leaving(self) -> Move
+        ensures { λ r. ⌜ r ≡ own self Fault ⌝ }
+    {
+        let settings = self.settings;
+        let timed = settings[CONTROL_MODE] == 1;
+        let limit = settings[RETRY_LIMIT] as u32;
+        out_of(
+            from_fault(
+                timed,
+                limit,
+                self.nth,
+                self.retries,
+                self.clear,
+                self.blocked,
+            ),
+        )
+    }
+
     fn own_move(self) -> Move
         ensures { λ r. ⌜ r ≡ own self (self .state) ⌝ }
     {
@@ -139,7 +162,7 @@ impl Grounds {
             State::OffsetCal => from_offset_cal(settings, self.cycles),
             State::BtsCharge => from_bts_charge(settings, self.cycles),
             State::MotorRun => Move::Stay,
-            State::Fault => from_fault(settings, self.nth, self.retries, self.clear, self.blocked),
+            State::Fault => self.leaving(),
             State::CatchSpin => from_catch_spin(settings, self.nth, speed),
             State::Parking => from_parking(settings, self.nth),
             State::OpenLoop => from_open_loop(settings, speed),

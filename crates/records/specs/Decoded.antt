@@ -37,15 +37,15 @@ cycleOf bytes = record { pattern = byte 1 bytes; first = number 2 bytes; second 
 unfoldable pub tickOf : List ℕ → Tick
 tickOf bytes =
     record {
-      kill = byte 1 bytes;
+      «gate_kill» = byte 1 bytes;
       clear = byte 2 bytes;
       command = byte 3 bytes;
       control = number 4 bytes;
-      raw = number 6 bytes;
-      filtered = number 8 bytes;
+      «vdc_raw» = number 6 bytes;
+      «vdc_filt» = number 8 bytes;
       temperature = number 10 bytes;
-      flux = number 12 bytes;
-      torque = signedNumber 14 bytes;
+      «flx_m» = number 12 bytes;
+      «trq_ref» = signedNumber 14 bytes;
       speed = signedNumber 16 bytes;
       target = signedNumber 18 bytes;
     }

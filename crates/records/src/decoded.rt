@@ -2,6 +2,7 @@
 use fields::Cycle;
 use fields::Tick;
 use numbers::signed;
+use settings::SETTING_COUNT;
 ghost use mathlib.Core.Path.{_≡_};
 ghost use Prim.Native.Nat.{_+_, _*_, _<_, _≤_};
 ghost use lib.ListN.{length};
@@ -29,11 +30,11 @@ fn signed_number(bytes: &[u8], at: usize) -> i16
 }
 
 // The 24 numbers of a load.
-pub(crate) fn settings_of(bytes: &[u8]) -> [u16; 24]
+pub(crate) fn settings_of(bytes: &[u8]) -> [u16; SETTING_COUNT]
     requires { ⌜ 49 ≤ length (now bytes) ⌝ }
     ensures { λ r. ⌜ r ≡ settingsOf (now (bytes .entry)) ⌝ }
 {
-    let mut settings = [0u16; 24];
+    let mut settings = [0u16; SETTING_COUNT];
     let mut i: usize = 0;
     while i < 24 {
         settings[i] = number(bytes, 1 + 2 * i);
@@ -58,15 +59,15 @@ pub(crate) fn tick_of(bytes: &[u8]) -> Tick
     ensures { λ r. ⌜ r ≡ tickOf (now (bytes .entry)) ⌝ }
 {
     Tick {
-        kill: bytes[1],
+        gate_kill: bytes[1],
         clear: bytes[2],
         command: bytes[3],
         control: number(bytes, 4),
-        raw: number(bytes, 6),
-        filtered: number(bytes, 8),
+        vdc_raw: number(bytes, 6),
+        vdc_filt: number(bytes, 8),
         temperature: number(bytes, 10),
-        flux: number(bytes, 12),
-        torque: signed_number(bytes, 14),
+        flx_m: number(bytes, 12),
+        trq_ref: signed_number(bytes, 14),
         speed: signed_number(bytes, 16),
         target: signed_number(bytes, 18),
     }

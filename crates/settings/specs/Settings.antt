@@ -5,6 +5,10 @@ use mathlib.Core.List.{List}
 use lib.Dec.{eqb}
 use lib.ListN.{getD}
 
+-- "its 24 settings"
+abbrev pub settingCount : ℕ
+settingCount = 24
+
 -- the settings are counted from 1
 abbrev pub setting : ℕ → List ℕ → ℕ
 setting n settings = getD settings (n - 1) 0

@@ -4,8 +4,10 @@ use verdicts::Verdict;
 ghost use mathlib.Core.Path.{_≡_};
 ghost use Prim.Native.Nat.{_<_};
 ghost use Rattle.verdicts.specs.Table.{verdict};
-ghost use Rattle.settings.specs.Settings.{samples};
+ghost use Rattle.settings.specs.Settings.{settingCount, samples};
 ghost use Rattle.settings.specs.Rules.{related, rule, settingRows};
+
+pub const SETTING_COUNT: usize = 24;
 
 // Where each setting stands in the array, in the order of the paper, from 0.
 pub const CONTROL_MODE: usize = 0;
@@ -57,62 +59,62 @@ pub const CMD_GAIN: usize = 22;
 pub const RETRY_LIMIT: usize = 23;
 
 // The lowest and the highest value of each setting.
-const LOWEST: [u16; 24] = [
-    0,
-    0,
-    0,
-    0,
-    0,
-    0,
-    1,
-    1,
-    1,
-    0,
-    0,
-    0,
-    1,
-    0,
-    0,
-    0,
-    0,
-    0,
-    0,
-    0,
-    0,
-    0,
-    0,
-    0,
+const LOWEST: [u16; SETTING_COUNT] = [
+    0, // ControlMode
+    0, // FaultEnable
+    0, // VdcOvLevel
+    0, // VdcLvLevel
+    0, // CriticalOvLevel
+    0, // Tshutdown
+    1, // RotorLockTime
+    1, // FluxFaultTime
+    1, // HallTimeoutPeriod
+    0, // HallAngleOffset
+    0, // MinSpd
+    0, // SpdRampRate
+    1, // MotorLim
+    0, // OffsetPsc
+    0, // BtsChargeTime
+    0, // TCatchSpin
+    0, // DirectStartThr
+    0, // IS_Pulses
+    0, // ParkTime
+    0, // OpenLoopRamp
+    0, // CmdStart
+    0, // CmdStop
+    0, // CmdGain
+    0, // RetryLimit
 ];
 
-const HIGHEST: [u16; 24] = [
-    1,
-    65535,
-    4095,
-    4095,
-    4095,
-    4095,
-    65535,
-    65535,
-    65535,
-    65535,
-    16383,
-    32767,
-    4095,
-    7,
-    65535,
-    65535,
-    16383,
-    255,
-    65535,
-    65535,
-    4095,
-    4095,
-    65535,
-    100,
+const HIGHEST: [u16; SETTING_COUNT] = [
+    1, // ControlMode
+    65535, // FaultEnable
+    4095, // VdcOvLevel
+    4095, // VdcLvLevel
+    4095, // CriticalOvLevel
+    4095, // Tshutdown
+    65535, // RotorLockTime
+    65535, // FluxFaultTime
+    65535, // HallTimeoutPeriod
+    65535, // HallAngleOffset
+    16383, // MinSpd
+    32767, // SpdRampRate
+    4095, // MotorLim
+    7, // OffsetPsc
+    65535, // BtsChargeTime
+    65535, // TCatchSpin
+    16383, // DirectStartThr
+    255, // IS_Pulses
+    65535, // ParkTime
+    65535, // OpenLoopRamp
+    4095, // CmdStart
+    4095, // CmdStop
+    65535, // CmdGain
+    100, // RetryLimit
 ];
 
 // Whether the setting at this place, from 1, stands to others as its rule says.
-fn related(settings: [u16; 24], place: usize) -> bool
+fn related(settings: [u16; SETTING_COUNT], place: usize) -> bool
     ensures { λ r. ⌜ r ≡ related settings place ⌝ }
 {
     match place {
@@ -123,19 +125,19 @@ fn related(settings: [u16; 24], place: usize) -> bool
     }
 }
 
-fn rule(settings: [u16; 24], i: usize) -> bool
-    requires { ⌜ i < 24 ⌝ }
+fn rule(settings: [u16; SETTING_COUNT], i: usize) -> bool
+    requires { ⌜ i < settingCount ⌝ }
     ensures { λ r. ⌜ r ≡ rule settings i ⌝ }
 {
     let value = settings[i];
     (LOWEST[i] <= value) & (value <= HIGHEST[i]) & related(settings, i + 1)
 }
 
-pub fn verdict(settings: [u16; 24]) -> Verdict
+pub fn verdict(settings: [u16; SETTING_COUNT]) -> Verdict
     ensures { λ r. ⌜ r ≡ verdict (settingRows settings) ⌝ }
 {
     let mut i: usize = 0;
-    while i < 24 {
+    while i < SETTING_COUNT {
         if !rule(settings, i) {
             return Verdict {
                 number: 2,

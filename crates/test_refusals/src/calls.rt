@@ -24,15 +24,15 @@ fn cycle_of(row: [u16; 44]) -> Cycle {
 
 fn tick_of(row: [u16; 44]) -> Tick {
     Tick {
-        kill: (row[33] % 256) as u8,
+        gate_kill: (row[33] % 256) as u8,
         clear: (row[34] % 256) as u8,
         command: (row[35] % 256) as u8,
         control: row[36],
-        raw: row[37],
-        filtered: row[38],
+        vdc_raw: row[37],
+        vdc_filt: row[38],
         temperature: row[39],
-        flux: row[40],
-        torque: signed(row[41]),
+        flx_m: row[40],
+        trq_ref: signed(row[41]),
         speed: signed(row[42]),
         target: signed(row[43]),
     }

@@ -32,20 +32,20 @@ known kill critical over under flux heat lock timeout hall told =
 
 module _ (d : Drive) (t : Tick) where
   -- what he finds blocks an exit from FAULT ..
-  pub found-blocks : T (causeOf (d .settings) t || deadCauseOf (d .settings) (d .hall .dead)) → T (alight d (standing d t))
+  pub found-blocks : T (causeOf (d .settings) t || deadCauseOf (d .settings) (d .hall .«dead_streak»)) → T (alight d (standing d t))
   unfolding causes
   found-blocks =
       let f : Flags = live (FaultEnable (d .settings)) (standing d t) in
       known (f .kill) (f .critical) (f .over) (f .under) (f .flux) (f .heat) (f .lock) (f .timeout) (f .hall)
 
   -- .. and trips outside it
-  pub found-trips : T (causeOf (d .settings) t || deadCauseOf (d .settings) (d .hall .dead)) → T (alight d (raised d t))
+  pub found-trips : T (causeOf (d .settings) t || deadCauseOf (d .settings) (d .hall .«dead_streak»)) → T (alight d (raised d t))
   found-trips found = shows-causes (FaultEnable (d .settings)) (d .flags) (standing d t) (found-blocks found)
 
 -- a dead streak of 2 is flagged as long as it stands
-pub dead-shows : (d : Drive) → Reached d → T (deadCauseOf (d .settings) (d .hall .dead)) → T (any (alive d))
+pub dead-shows : (d : Drive) → Reached d → T (deadCauseOf (d .settings) (d .hall .«dead_streak»)) → T (any (alive d))
 dead-shows d r found =
-    let (two, unmasked) = and-yes (eqb (d .hall .dead) 2) (bit 15 (FaultEnable (d .settings))) found in
+    let (two, unmasked) = and-yes (eqb (d .hall .«dead_streak») 2) (bit 15 (FaultEnable (d .settings))) found in
     let flag = r .dead unmasked (eqb-yes two) in
     or-right (first-eight (alive d)) (d .flags .hall && bit 15 (FaultEnable (d .settings)))
     (yes-and (d .flags .hall) (bit 15 (FaultEnable (d .settings))) flag unmasked)

@@ -31,15 +31,15 @@ use Rattle.drive.specs.declared.answer.Answer.{Answer}
 abbrev pub reversed : Tick → Tick
 reversed t =
     record {
-      kill = t .kill;
+      «gate_kill» = t .«gate_kill»;
       clear = t .clear;
       command = t .command;
       control = t .control;
-      raw = t .raw;
-      filtered = t .filtered;
+      «vdc_raw» = t .«vdc_raw»;
+      «vdc_filt» = t .«vdc_filt»;
       temperature = t .temperature;
-      flux = t .flux;
-      torque = t .torque;
+      «flx_m» = t .«flx_m»;
+      «trq_ref» = t .«trq_ref»;
       speed = negℤ (t .speed);
       target = t .target;
     }
@@ -115,7 +115,7 @@ module _ (d : Drive) (t : Tick) where
 
   standing-same : standing d (reversed t) ≡ standing d t
   unfolding causes
-  standing-same = ap (λ (w : Watched). causes (d .settings) (is 4 (d .state)) (d .hall .dead) t w) watch-same
+  standing-same = ap (λ (w : Watched). causes (d .settings) (is 4 (d .state)) (d .hall .«dead_streak») t w) watch-same
 
   chosen-same : chosen d (reversed t) ≡ chosen d t
   chosen-same =

@@ -95,7 +95,7 @@ module _ (d : Drive) (r : Reached d) (memory : Memory) (knows : Remembers d memo
     dead-faults now r-now knows-now cause =
         decide (is 0 (d .state))
         (λ idle.
-        let none : hall .dead ≡ 0 = ap (λ (e : Drive). e .hall .dead) (r-now .idle idle) in absurd (rw (knows-now .dead, none) at cause))
+        let none : hall .«dead_streak» ≡ 0 = ap (λ (e : Drive). e .hall .«dead_streak») (r-now .idle idle) in absurd (rw (knows-now .dead, none) at cause))
         (λ outside. dead-shows stood r-now (rw (knows-now .loaded outside, knows-now .dead) at cause))
 
     stands :

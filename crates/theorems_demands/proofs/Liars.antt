@@ -38,15 +38,15 @@ Hides = Tick → Tick
 abbrev hiding : (kill command control raw filtered temperature : ℕ → ℕ) → Hides
 hiding kill command control raw filtered temperature t =
     record {
-      kill = kill (t .kill);
+      «gate_kill» = kill (t .«gate_kill»);
       clear = t .clear;
       command = command (t .command);
       control = control (t .control);
-      raw = raw (t .raw);
-      filtered = filtered (t .filtered);
+      «vdc_raw» = raw (t .«vdc_raw»);
+      «vdc_filt» = filtered (t .«vdc_filt»);
       temperature = temperature (t .temperature);
-      flux = t .flux;
-      torque = t .torque;
+      «flx_m» = t .«flx_m»;
+      «trq_ref» = t .«trq_ref»;
       speed = t .speed;
       target = t .target;
     }

@@ -26,7 +26,7 @@ pub record Remembers (d : Drive) (memory : Memory) : Type 0 where
   pub shown : memory .shown ≡ numberOf (d .state)
   -- the drive stops counting at 65535; he does not
   pub waited : T (is 5 (d .state)) → d .ticks ≤ memory .waited
-  pub dead : memory .dead ≡ d .hall .dead
+  pub dead : memory .dead ≡ d .hall .«dead_streak»
 
 pub remembers-power-up : Remembers powerUp nothingYet
 remembers-power-up = record { loaded = λ t. absurd t; shown = refl; waited = λ t. absurd t; dead = refl }

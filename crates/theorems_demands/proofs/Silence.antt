@@ -37,7 +37,7 @@ faulted n =
     record {
       state = Fault;
       settings = settingsWith 1 0;
-      hall = record { kept = Pattern 1; position = 0; angle = negsuc 5461; dead = 0; stray = 0; still = 66 };
+      hall = record { kept = Pattern 1; position = 0; angle = negsuc 5461; «dead_streak» = 0; «stray_streak» = 0; «still_count» = 66 };
       flags =
           record {
             kill = false;
@@ -53,7 +53,7 @@ faulted n =
       cycles = 0;
       ticks = n;
       offsets = record { measured = true; value = record { first = 0; second = 0 }; sum = record { first = 0; second = 0 } };
-      run = record { slots = record { ticks = 0; bad = false; row = 0 }; lock = 0; still = 0; reference = pos 0 };
+      run = record { slots = record { ticks = 0; bad = false; «bad_slots» = 0 }; «rotor_lock_ticks» = 0; «hall_still_ticks» = 0; reference = pos 0 };
       armed = false;
       retries = 0;
     }

@@ -58,7 +58,7 @@ module _ (settings : List ℕ) (hall : Hall) (flags : Flags) (cycles count : ℕ
       }
 
   abbrev pub memory : State → Memory
-  memory state = record { numbers = settings; shown = numberOf state; waited = waited; dead = hall .dead }
+  memory state = record { numbers = settings; shown = numberOf state; waited = waited; dead = hall .«dead_streak» }
 
   abbrev tripped : State → Bool
   tripped state = alight (at state) (raised (at state) t)
@@ -77,7 +77,7 @@ module _ (settings : List ℕ) (hall : Hall) (flags : Flags) (cycles count : ℕ
 
   -- what he finds in the tick and the samples
   abbrev found : Bool
-  found = causeOf settings t || deadCauseOf settings (hall .dead)
+  found = causeOf settings t || deadCauseOf settings (hall .«dead_streak»)
 
   -- a tick by which the drive turns, with no low and nothing begun but by a start, ends no start
   goes-on-by :

@@ -33,15 +33,15 @@ abbrev pub tickWith : ℕ → ℕ → ℕ → ℕ → ℕ → ℕ → ℕ → �
 tickWith kill clear command control raw filtered speed target =
     ticks
     (record {
-      kill = kill;
+      «gate_kill» = kill;
       clear = clear;
       command = command;
       control = control;
-      raw = raw;
-      filtered = filtered;
+      «vdc_raw» = raw;
+      «vdc_filt» = filtered;
       temperature = 1000;
-      flux = 2048;
-      torque = pos 0;
+      «flx_m» = 2048;
+      «trq_ref» = pos 0;
       speed = pos speed;
       target = pos target;
     })

@@ -52,10 +52,10 @@ highOf s t = cond (isMode1 s) (leb (setting 21 s) (t .control)) (eqb (t .command
 -- Tshutdown."; "0 and 1 are always live"
 abbrev pub causeOf : List ℕ → Tick → Bool
 causeOf s t =
-    eqb (t .kill) 1
-    || ltb (setting 5 s) (t .raw)
-    || ltb (setting 3 s) (t .filtered) && enabled 2 s
-    || ltb (t .filtered) (setting 4 s) && enabled 3 s
+    eqb (t .«gate_kill») 1
+    || ltb (setting 5 s) (t .«vdc_raw»)
+    || ltb (setting 3 s) (t .«vdc_filt») && enabled 2 s
+    || ltb (t .«vdc_filt») (setting 4 s) && enabled 3 s
     || ltb (setting 6 s) (t .temperature) && enabled 6 s
 
 -- "15: dead streak is 2."

@@ -133,7 +133,7 @@ startTaken history = since (λ call. not (endsStart call)) (λ call. call .start
 -- "Before that start": all that came before the last start
 unfoldable pub beforeStart : List Seen → List Seen
 beforeStart [] = []
-beforeStart (call ∷ past) = cond (call .started)
+beforeStart (call ∷ past) = cond (call .started) past (beforeStart past)
 
 -- "if the gates charge or drive, no live fault stands, and .."
 unfoldable pub gatesRule : List Seen → Bool

@@ -86,17 +86,17 @@ module _ (hall : Hall) (within : HallWithin hall) where
   dead-within : HallWithin (deadSample hall .hall)
   unfolding deadSample
   dead-within =
-      let at2 : Bool = eqb (up 2 (hall .dead)) 2 in
+      let at2 : Bool = eqb (up 2 (hall .«dead_streak»)) 2 in
       rested-within hall Dead _ _ 0 at2 within
       (by-test Known at2 (λ t. tt) (λ t. within .kept))
       (omega arith)
-      (λ e. rw (eq-eqb (up 2 (hall .dead)) 2 e))
+      (λ e. rw (eq-eqb (up 2 (hall .«dead_streak»)) 2 e))
       (omega arith)
 
   stray-within : HallWithin (straySample hall .hall)
   unfolding straySample
   stray-within =
-      let at3 : Bool = eqb (up 3 (hall .stray)) 3 in
+      let at3 : Bool = eqb (up 3 (hall .«stray_streak»)) 3 in
       rested-within hall Stray _ 0 _ at3 within
       (by-test Known at3 (λ t. tt) (λ t. within .kept))
       (omega arith)
@@ -129,13 +129,13 @@ module _ (hall : Hall) (within : HallWithin hall) where
 -- a sample that leaves the dead streak at 2 sets flag 15
 pub dead-flagged :
     (hall : Hall) (pattern : ℕ) (offset : ℤ)
-    → sampled hall pattern offset .hall .dead ≡ 2
+    → sampled hall pattern offset .hall .«dead_streak» ≡ 2
     → T (sampled hall pattern offset .flagged)
 unfolding sampled deadSample straySample
 dead-flagged hall pattern offset = by-fate (fate pattern (hall .kept))
   where
-    by-fate : (f : Fate) → after hall pattern offset f .hall .dead ≡ 2 → T (after hall pattern offset f .flagged)
-    by-fate Dead two = rw (eq-eqb (up 2 (hall .dead)) 2 two) tt
+    by-fate : (f : Fate) → after hall pattern offset f .hall .«dead_streak» ≡ 2 → T (after hall pattern offset f .flagged)
+    by-fate Dead two = rw (eq-eqb (up 2 (hall .«dead_streak»)) 2 two) tt
     by-fate First two = absurd (omega arith)
     by-fate Same two = absurd (omega arith)
     by-fate Forward two = absurd (omega arith)
@@ -161,14 +161,14 @@ outside-the-order p small =
 -- "0 or 7: dead streak up by one, at most 2"; any other leaves it at zero
 module _ (hall : Hall) (p : ℕ) (offset : ℤ) where
   abbrev dead-with : Fate → ℕ
-  dead-with f = after hall p offset f .hall .dead
+  dead-with f = after hall p offset f .hall .«dead_streak»
 
-  pub dead-by-pattern : p ≤ 7 → sampled hall p offset .hall .dead ≡ cond (eqb p 0 || eqb p 7) (up 2 (hall .dead)) 0
+  pub dead-by-pattern : p ≤ 7 → sampled hall p offset .hall .«dead_streak» ≡ cond (eqb p 0 || eqb p 7) (up 2 (hall .«dead_streak»)) 0
   unfolding sampled fate beside deadSample straySample
   dead-by-pattern small = go (eqb p 0 || eqb p 7) (outside-the-order p small) (hall .kept)
     where
       go : (test : Bool) → not test ≡ among clockwise p → (kept : Kept)
-          → dead-with (cond (among clockwise p) (beside (previous p) p (next p) kept) Dead) ≡ cond test (up 2 (hall .dead)) 0
+          → dead-with (cond (among clockwise p) (beside (previous p) p (next p) kept) Dead) ≡ cond test (up 2 (hall .«dead_streak»)) 0
       go true e kept = rw (← e)
       go false e Nothing = rw (← e)
       go false e (Pattern k) =

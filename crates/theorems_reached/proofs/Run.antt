@@ -98,11 +98,11 @@ slot-within : (length : ℕ) (bad : Bool) (slots : Slots) → 0 < length → nex
 slot-within length bad slots positive =
     by-test (λ (n : ℕ). n < length) (ends length slots) (λ t. positive) (λ t. omega (arith, eqb-no))
 
-row-within : (length : ℕ) (bad : Bool) (slots : Slots) → slots .row ≤ 8 → nextSlots length bad slots .row ≤ 8
+row-within : (length : ℕ) (bad : Bool) (slots : Slots) → slots .«bad_slots» ≤ 8 → nextSlots length bad slots .«bad_slots» ≤ 8
 row-within length bad slots small =
     by-test (λ (n : ℕ). n ≤ 8) (ends length slots)
     (λ t.
-    by-test (λ (n : ℕ). n ≤ 8) (slots .bad || bad) {a = up 8 (slots .row)} {b = 0} (λ u. omega arith) (λ u. omega arith))
+    by-test (λ (n : ℕ). n ≤ 8) (slots .bad || bad) {a = up 8 (slots .«bad_slots»)} {b = 0} (λ u. omega arith) (λ u. omega arith))
     (λ t. small)
 
 -- ---- at rest, on entering MOTORRUN, and after a tick that stays there
@@ -140,10 +140,10 @@ pub ran-within :
 unfolding watched
 ran-within s t stillCount r loaded small within =
     record {
-      slot = slot-within _ (badFlux (t .flux)) (r .slots) (slot-length s loaded);
-      row = row-within _ (badFlux (t .flux)) (r .slots) (within .row);
-      lock = lasting-within _ (locked s t) (r .lock);
-      still = lasting-within _ (eqb stillCount 4096) (r .still);
+      slot = slot-within _ (badFlux (t .«flx_m»)) (r .slots) (slot-length s loaded);
+      row = row-within _ (badFlux (t .«flx_m»)) (r .slots) (within .row);
+      lock = lasting-within _ (locked s t) (r .«rotor_lock_ticks»);
+      still = lasting-within _ (eqb stillCount 4096) (r .«hall_still_ticks»);
       reference =
           toward-within (SpdRampRate s) (times2048 (targetOf s t)) (r .reference)
           (scaled (targetOf s t) (target-within s t loaded small))

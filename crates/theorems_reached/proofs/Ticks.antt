@@ -36,16 +36,16 @@ use Rattle.moves.proofs.Ways.{Way, trips, stops, stays, goes-on, calibrates, st
 
 module _ (d : Drive) (r : Reached d) (t : Tick) (outside : T (not (is 0 (d .state)))) where
   -- a tick that finds the dead streak at 2 raises flag 15
-  flagged : d .hall .dead ≡ 2 → T (raised d t .hall)
+  flagged : d .hall .«dead_streak» ≡ 2 → T (raised d t .hall)
   unfolding causes
-  flagged two = or-right (d .flags .hall) (eqb (d .hall .dead) 2) (rw (eq-eqb (d .hall .dead) 2 two) tt)
+  flagged two = or-right (d .flags .hall) (eqb (d .hall .«dead_streak») 2) (rw (eq-eqb (d .hall .«dead_streak») 2 two) tt)
 
   -- where no live cause stands, it does not find it so, unless it is masked
-  free-of-dead : T (not (alight d (standing d t))) → T (bit 15 (FaultEnable (d .settings))) → d .hall .dead ≡ 2 → ⊥
+  free-of-dead : T (not (alight d (standing d t))) → T (bit 15 (FaultEnable (d .settings))) → d .hall .«dead_streak» ≡ 2 → ⊥
   unfolding causes
   free-of-dead free live two =
-      let stands : Bool = eqb (d .hall .dead) 2 && bit 15 (FaultEnable (d .settings)) in
-      T-not stands (rw (eq-eqb (d .hall .dead) 2 two) live)
+      let stands : Bool = eqb (d .hall .«dead_streak») 2 && bit 15 (FaultEnable (d .settings)) in
+      T-not stands (rw (eq-eqb (d .hall .«dead_streak») 2 two) live)
       (or-no (first-eight (lit (FaultEnable (d .settings)) (standing d t))) stands free .1)
 
   -- a tick that goes to STOP
@@ -54,7 +54,7 @@ module _ (d : Drive) (r : Reached d) (t : Tick) (outside : T (not (is 0 (d .stat
       → T (not (alight d (butHall flags)))
       → OffsetsWithin (samples (OffsetPsc (d .settings))) offsets
       → retries ≤ RetryLimit (d .settings)
-      → (T (bit 15 (FaultEnable (d .settings))) → d .hall .dead ≡ 2 → T (flags .hall))
+      → (T (bit 15 (FaultEnable (d .settings))) → d .hall .«dead_streak» ≡ 2 → T (flags .hall))
       → Reached (arrive d Stop flags offsets still armed retries)
   stopped flags offsets armed retries calm within few dead =
       record {
@@ -193,7 +193,7 @@ module _ (d : Drive) (r : Reached d) (t : Tick) (outside : T (not (is 0 (d .stat
         retries = r .retries;
         running = λ u.
             by-test (RunWithin (d .settings)) (is 4 (d .state))
-            (λ v. ran-within (d .settings) t (d .hall .still) (d .run) (r .settings outside) target (r .running u))
+            (λ v. ran-within (d .settings) t (d .hall .«still_count») (d .run) (r .settings outside) target (r .running u))
             (λ v. absurd (T-not (is 4 (d .state)) u v));
         resting = λ u.
             by-test (λ (run : Run). run ≡ still) (is 4 (d .state)) (λ v. absurd (T-not (is 4 (d .state)) v u)) (λ v. refl);

@@ -44,21 +44,21 @@ pub record HallWithin (hall : Hall) : Type 0 where
   -- "angle [is] signed 16-bit"
   pub angle : SFits w16 (hall .angle)
   -- "dead streak up by one, at most 2"; "At 2, .. the kept pattern is forgotten."
-  pub dead : hall .dead ≤ 2
-  pub forgotten : hall .dead ≡ 2 → hall .kept ≡ Nothing
+  pub dead : hall .«dead_streak» ≤ 2
+  pub forgotten : hall .«dead_streak» ≡ 2 → hall .kept ≡ Nothing
   -- "At 3, .. the stray streak returns to zero."
-  pub stray : hall .stray ≤ 2
+  pub stray : hall .«stray_streak» ≤ 2
   -- the still count "grows to at most 4096"
-  pub still : hall .still ≤ 4096
+  pub still : hall .«still_count» ≤ 4096
 
 -- the counts of bits 4, 7 and 14 and the speed reference, in MOTORRUN
 pub record RunWithin (settings : List ℕ) (run : Run) : Type 0 where
   -- a slot's last tick ends it, so the present slot has fewer ticks than a slot
   pub slot : run .slots .ticks < Runs.slotLength (FluxFaultTime settings)
   -- bad slots in a row are counted to the eighth
-  pub row : run .slots .row ≤ 8
-  pub lock : run .lock ≤ 10 * RotorLockTime settings
-  pub still : run .still ≤ 10 * HallTimeoutPeriod settings
+  pub row : run .slots .«bad_slots» ≤ 8
+  pub lock : run .«rotor_lock_ticks» ≤ 10 * RotorLockTime settings
+  pub still : run .«hall_still_ticks» ≤ 10 * HallTimeoutPeriod settings
   -- a speed is within plus or minus 32767 and is "kept times 2048"
   pub reference : natAbs (run .reference) ≤ 32767 * 2048
 
@@ -104,7 +104,7 @@ pub record Reached (d : Drive) : Type 0 where
   pub retries : d .retries ≤ RetryLimit (d .settings)
   -- "Bits 4, 7 and 14 count only ticks taken in MOTORRUN"; "other states hold 0"
   pub running : T (is 4 (d .state)) → RunWithin (d .settings) (d .run)
-  pub resting : T (not (is 4 (d .state))) → d .run ≡ Runs.still
+  pub resting : T (not (is 4 (d .state))) → d .run ≡ Runs.atRest
   -- no sum is beyond N samples of 4095, which 25 bits hold
   pub offsets : OffsetsWithin (samples (OffsetPsc (d .settings))) (d .offsets)
   -- in OFFSETCAL each sum has at most a sample a cycle
@@ -119,4 +119,4 @@ pub record Reached (d : Drive) : Type 0 where
   -- FAULT is entered with a live flag, and the flags "stay until cleared"
   pub tripped : T (is 5 (d .state)) → T (alight d (d .flags))
   -- "At 2, flag 15 is set", and while the streak stands no exit from FAULT clears the flag, unless it is masked
-  pub dead : T (bit 15 (FaultEnable (d .settings))) → d .hall .dead ≡ 2 → T (d .flags .hall)
+  pub dead : T (bit 15 (FaultEnable (d .settings))) → d .hall .«dead_streak» ≡ 2 → T (d .flags .hall)

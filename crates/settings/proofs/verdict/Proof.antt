@@ -5,14 +5,14 @@ use mathlib.Core.List.{List, _∷_, map}
 use Prim.Native.Nat.{ℕ, suc, _+_, _-_, _≤_, _<_}
 use native.Mathlib.Numerals.{add-one}
 use native.Mathlib.Omega.{arith}
-use lib.Dec.{eqb, eqb→eq}
-use lib.ListN.{drop, getD}
+use lib.ListN.{drop}
 use lib.Seq.{drop-cons}
 use borrow.Author.Needs.{needs}
-use Rattle.numbers.proofs.Table.{at}
 use Rattle.verdicts.specs.Table.{verdict}
+use Rattle.settings.specs.Settings.{settingCount}
 use Rattle.settings.specs.Rules.{indices, rule, settingRow, settingRows}
 use Rattle.verdicts.specs.declared.Verdict.{Verdict}
+use Rattle.settings.proofs.Places.{place-at}
 use Rattle.settings.proofs.verdict.Statement.{statement}
 use Rattle.settings.proofs.verdict.Tie as tie
 
@@ -20,19 +20,16 @@ use Rattle.settings.proofs.verdict.Tie as tie
 abbrev from : List ℕ → ℕ → Verdict
 from s i = verdict (map (settingRow s) (drop i indices))
 
-index-is : (i : ℕ) → i < 24 → getD indices i 0 ≡ i
-index-is i small = eqb→eq (getD indices i 0) i (at (λ (k x : ℕ). eqb x k) indices 0 tt i small)
-
-next : (s : List ℕ) (i : ℕ) → i < 24 → from s i ≡ cond (not (rule s i)) (record { number = 2; place = i + 1 }) (from s (suc i))
+next : (s : List ℕ) (i : ℕ) → i < settingCount → from s i ≡ cond (not (rule s i)) (record { number = 2; place = i + 1 }) (from s (suc i))
 next s i small =
     ap (λ (l : List ℕ). verdict (map (settingRow s) l))
-    (drop-cons indices i 0 small ∙ ap (λ (x : ℕ). x ∷ drop (suc i) indices) (index-is i small))
+    (drop-cons indices i 0 small ∙ ap (λ (x : ℕ). x ∷ drop (suc i) indices) (place-at i small))
 
 abbrev Inv-loop : tie.InvT-loop
-Inv-loop settings i₀ i = (i ≤ 24) × (verdict (settingRows settings) ≡ from settings i)
+Inv-loop settings i₀ i = (i ≤ settingCount) × (verdict (settingRows settings) ≡ from settings i)
 
 abbrev μ-loop : tie.MeasureT-loop
-μ-loop settings i₀ i = 24 - i
+μ-loop settings i₀ i = settingCount - i
 
 loop-holds : tie.Need-loop-holds Inv-loop μ-loop
 unfolding settingRows
@@ -55,7 +52,7 @@ loop-again c =
 
 returns-2 : tie.Need-returns-2 Inv-loop μ-loop
 returns-2 c =
-    let end : c .before .loop .i ≡ 24 = omega (arith, c .before .loop .inv .0, c .loop-test .left) in
+    let end : c .before .loop .i ≡ settingCount = omega (arith, c .before .loop .inv .0, c .loop-test .left) in
     rw (c .before .loop .inv .1, end)
 
 pub verdict-spec : {M : Type 1} → statement M

@@ -1,4 +1,4 @@
--- `cycled` makes the next state in one literal, each changed part by the function of its definition.
+-- `cycled` changes four parts of the state, each by the function of its definition.
 use mir.Syntax.{w16}
 use mir.Facts.{toZ-ofZ}
 use borrow.Author.Needs.{needs}
@@ -10,12 +10,12 @@ returns : tie.Need-returns
 unfolding cycled
 returns c =
     rw (
-      c .summed .ensures,
-      c .before .count-up .ensures,
-      c .before .before .with-hall .ensures,
-      c .before .before .before .before .sampled .ensures,
-      toZ-ofZ {w = w16} {z = c .before .before .before .before .before .signed .result} (search needs),
-      c .before .before .before .before .before .signed .ensures,
+      c .before .before .summed .ensures,
+      c .before .before .before .count-up .ensures,
+      c .before .before .before .before .before .flag .ensures,
+      c .before .before .before .before .before .before .before .sampled .ensures,
+      toZ-ofZ {w = w16} {z = c .before .before .before .before .before .before .before .before .signed .result} (search needs),
+      c .before .before .before .before .before .before .before .before .signed .ensures,
     )
 
 pub cycled-spec : {M : Type 1} → statement M

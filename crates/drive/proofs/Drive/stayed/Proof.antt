@@ -1,21 +1,15 @@
--- `stayed` copies what stays and counts the tick; only MOTORRUN goes on running.
+-- `stayed` counts the tick; only MOTORRUN goes on running.
 use borrow.Author.Needs.{needs}
 use Rattle.drive.proofs.Drive.stayed.Statement.{statement}
 use Rattle.drive.proofs.Drive.stayed.Tie as tie
 
 returns : tie.Need-returns
-returns c =
-    rw (
-      c .nth .ensures,
-      c .before .after .ensures,
-      c .before .before .number .ensures,
-    )
+returns c = cc
 
 pub stayed-spec : {M : Type 1} → statement M
 stayed-spec =
     tie.close
     (tie.spec
-    (λ c κs. search needs)
     (λ c κs. search needs)
     (λ c κs. search needs)
     returns)

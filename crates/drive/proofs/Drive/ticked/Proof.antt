@@ -1,27 +1,38 @@
--- `ticked` calls the definitions' functions in their order: causes, flags, move, command, next state.
+-- `ticked` calls the definitions' functions in their order: causes, command, move, next state.
+use mir.Syntax.{w16}
+use mir.Facts.{toZ-ofZ}
 use borrow.Author.Needs.{needs}
-use Rattle.drive.specs.Calls.{ticked}
+use Rattle.drive.specs.Ticks.{ticked}
 use Rattle.drive.proofs.Drive.ticked.Statement.{statement}
 use Rattle.drive.proofs.Drive.ticked.Tie as tie
 
 returns : tie.Need-returns
 unfolding ticked
 returns c =
+    let tick = c .before .before .before .before .before .before .before .before .before .before .before .before .before .before .args .tick in
+    let fits = c .before .before .before .struct-told .given .1 .1 .1 .1 .1 .1 .1 .1 .1 .0 in
     rw (
       c .moved .ensures,
-      c .before .arms .ensures,
-      c .before .before .move-of .ensures,
-      c .before .before .before .grounds .ensures,
-      c .before .before .before .before .either .ensures,
-      c .before .before .before .before .before .causes .ensures,
-      c .before .before .before .before .before .before .number .ensures,
-      c .before .before .before .before .before .before .before .watched .ensures,
+      c .before .move-of .ensures,
+      c .before .before .arms .ensures,
+      c .before .before .before .before .alive2 .ensures,
+      c .before .before .before .before .before .alive .ensures,
+      c .before .before .before .before .before .before .high .ensures,
+      c .before .before .before .before .before .before .before .before .causes .ensures,
+      c .before .before .before .before .before .before .before .before .before .watched .ensures,
+      c .before .before .before .before .before .before .before .before .before .before .low .ensures,
+      c .before .before .before .before .before .before .before .before .before .before .before .count-up .ensures,
+      c .before .before .before .before .before .before .before .before .before .before .before .before .number .ensures,
+      toZ-ofZ {w = w16} {z = tick .speed} (search (needs, fits)),
     )
 
 pub ticked-spec : {M : Type 1} → statement M
 ticked-spec =
     tie.close
     (tie.spec
+    (λ c κs. search needs)
+    (λ c κs. search needs)
+    (λ c κs. search needs)
     (λ c κs. search needs)
     (λ c κs. search needs)
     (λ c κs. search needs)

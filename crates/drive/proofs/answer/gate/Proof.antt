@@ -1,4 +1,5 @@
 -- `gate` asks for live bit 0, then 1, then any, then goes by the state.
+use native.Mathlib.Nat.{div-one}
 use borrow.Author.Needs.{needs}
 use Rattle.drive.proofs.answer.gate.Statement.{statement}
 use Rattle.drive.proofs.answer.gate.Tie as tie
@@ -10,14 +11,13 @@ returns c =
       c .before .pick-u82 .ensures,
       c .before .before .pick-u8 .ensures,
       c .before .before .before .gate-of .ensures,
-      c .before .before .before .before .any .ensures,
+      div-one (c .before .before .before .before .args .live),
     )
 
 pub gate-spec : {M : Type 1} → statement M
 gate-spec =
     tie.close
     (tie.spec
-    (λ c κs. search needs)
     (λ c κs. search needs)
     (λ c κs. search needs)
     (λ c κs. search needs)

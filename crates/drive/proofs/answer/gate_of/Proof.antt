@@ -1,4 +1,4 @@
--- `gate_of` goes by the state's number.
+-- `gate_of` charges in BTSCHARGE and drives in the other five of the six.
 use borrow.Author.Needs.{needs}
 use Rattle.drive.proofs.answer.gate_of.Statement.{statement}
 use Rattle.drive.proofs.answer.gate_of.Tie as tie

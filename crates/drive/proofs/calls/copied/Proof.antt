@@ -1,4 +1,4 @@
--- `copied` has copied every number below `i`; at 24 the two lists agree at every index.
+-- `copied` has copied every number below `i`; at the end the two lists agree at every index.
 use mathlib.Core.Path.{_≡_, refl, _∙_, sym}
 use Prim.Native.Nat.{ℕ, _-_, _≤_, _<_}
 use native.Mathlib.Omega.{arith}
@@ -7,15 +7,16 @@ use lib.Seq.{getD-set-same, getD-set-other, ext-getD}
 use denote.Ref.{now}
 use borrow.Author.Count.{below-more}
 use borrow.Author.Needs.{needs}
+use Rattle.settings.specs.Settings.{settingCount}
 use Rattle.drive.proofs.calls.copied.Statement.{statement}
 use Rattle.drive.proofs.calls.copied.Tie as tie
 
 abbrev Inv-loop : tie.InvT-loop
 Inv-loop numbers settings₀ i₀ settings i =
-    (i ≤ 24) × (length settings ≡ 24) × (length numbers ≡ 24) × ((k : ℕ) → k < i → getD settings k 0 ≡ getD numbers k 0)
+    (i ≤ settingCount) × (length settings ≡ settingCount) × (length numbers ≡ settingCount) × ((k : ℕ) → k < i → getD settings k 0 ≡ getD numbers k 0)
 
 abbrev μ-loop : tie.MeasureT-loop
-μ-loop numbers settings₀ i₀ settings i = 24 - i
+μ-loop numbers settings₀ i₀ settings i = settingCount - i
 
 loop-holds : tie.Need-loop-holds Inv-loop μ-loop
 loop-holds c = (omega arith, refl, c .pre, λ k none. absurd (omega (arith, none)))
@@ -26,7 +27,7 @@ loop-again c =
     let settings = c .before .before .loop .settings in
     let i = c .before .before .loop .i in
     let inv = c .before .before .loop .inv in
-    let small : i < 24 = c .before .loop-test .taken in (
+    let small : i < settingCount = c .before .loop-test .taken in (
       omega arith,
       length-set settings i (getD numbers i 0) ∙ inv .1,
       inv .2,

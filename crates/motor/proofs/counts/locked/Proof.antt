@@ -12,7 +12,7 @@ returns c =
       c .absolute2 .ensures,
       toZ-ofZ {w = w16} {z = tick .speed} (search needs),
       c .before .before .absolute .ensures,
-      toZ-ofZ {w = w16} {z = tick .torque} (search needs),
+      toZ-ofZ {w = w16} {z = tick .«trq_ref»} (search needs),
     )
 
 pub locked-spec : {M : Type 1} → statement M

@@ -40,7 +40,7 @@ returns-6 : tie.Need-returns-6
 returns-6 c =
     rw (
       c .before .enum-told6 .given .1,
-      c .from-fault .ensures,
+      c .leaving .ensures,
     )
 
 returns-7 : tie.Need-returns-7

@@ -4,11 +4,7 @@ use Rattle.drive.proofs.offsets.Offsets.added.Statement.{statement}
 use Rattle.drive.proofs.offsets.Offsets.added.Tie as tie
 
 returns : tie.Need-returns
-returns c =
-    rw (
-      c .wrapping-add-u322 .ensures,
-      c .before .wrapping-add-u32 .ensures,
-    )
+returns c = cc
 
 pub added-spec : {M : Type 1} → statement M
 added-spec =

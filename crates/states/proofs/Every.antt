@@ -1,0 +1,56 @@
+-- A test that passes at each of the ten states passes at every state: antt computes it ten times, so no proof goes through them again.
+use mathlib.Core.Bool.{Bool, true, false, _||_, not}
+use mathlib.Core.List.{List, [], _∷_}
+use Prim.Native.Nat.{ℕ, _<_}
+use native.Mathlib.Omega.{arith}
+use lib.Dec.{T}
+use lib.ListN.{length, getD}
+use Rattle.numbers.proofs.Table as table
+use Rattle.states.specs.declared.State.{State}
+use Rattle.states.specs.declared.State.the-variants.{Idle, Stop, OffsetCal, BtsCharge, MotorRun, Fault, CatchSpin, Parking, OpenLoop}
+use Rattle.states.specs.declared.State.the-variants.{AngleSensing}
+
+-- where the first passes, the second does
+abbrev pub implies : Bool → Bool → Bool
+implies a b = not a || b
+
+pub follows : (a b : Bool) → T (implies a b) → T a → T b
+follows true b t passes = t
+follows false b t passes = absurd passes
+
+-- by their numbers, from 0
+abbrev ten : List State
+ten =
+    Idle
+    ∷ Stop
+    ∷ OffsetCal
+    ∷ BtsCharge
+    ∷ MotorRun
+    ∷ Fault
+    ∷ CatchSpin
+    ∷ Parking
+    ∷ OpenLoop
+    ∷ AngleSensing
+    ∷ []
+
+abbrev pub AtAllTen : (State → Bool) → Type 0
+AtAllTen test = T (table.every (λ (i : ℕ). test) 0 ten)
+
+at-number : (test : State → Bool) → AtAllTen test → (k : ℕ) → k < 10 → T (test (getD ten k Idle))
+at-number test passes k h = table.at (λ (i : ℕ). test) ten Idle passes k h
+
+pub every : (test : State → Bool) → AtAllTen test → (s : State) → T (test s)
+every test passes Idle = at-number test passes 0 (omega arith)
+every test passes Stop = at-number test passes 1 (omega arith)
+every test passes OffsetCal = at-number test passes 2 (omega arith)
+every test passes BtsCharge = at-number test passes 3 (omega arith)
+every test passes MotorRun = at-number test passes 4 (omega arith)
+every test passes Fault = at-number test passes 5 (omega arith)
+every test passes CatchSpin = at-number test passes 6 (omega arith)
+every test passes Parking = at-number test passes 7 (omega arith)
+every test passes OpenLoop = at-number test passes 8 (omega arith)
+every test passes AngleSensing = at-number test passes 9 (omega arith)
+
+-- where one test passes, so does another, at every state
+pub at-every : (one other : State → Bool) → AtAllTen (λ s. implies (one s) (other s)) → (s : State) → T (one s) → T (other s)
+at-every one other passes s = follows (one s) (other s) (every (λ s. implies (one s) (other s)) passes s)
