@@ -29,7 +29,10 @@ pub(crate) fn causes(
     ensures { λ r. ⌜ r ≡ causes settings running «dead_streak» tick watched ⌝ }
 {
     flag(GATE_KILL, tick.gate_kill == 1)
-        | flag(CRITICAL_OVER_VOLTAGE, settings[CRITICAL_OV_LEVEL] < tick.vdc_raw)
+        | flag(
+            CRITICAL_OVER_VOLTAGE,
+            settings[CRITICAL_OV_LEVEL] < tick.vdc_raw,
+        )
         | flag(OVER_VOLTAGE, settings[VDC_OV_LEVEL] < tick.vdc_filt)
         | flag(UNDER_VOLTAGE, tick.vdc_filt < settings[VDC_LV_LEVEL])
         | flag(FLUX, running & watched.flux)

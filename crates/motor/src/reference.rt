@@ -1,7 +1,7 @@
 // The speed reference, kept times 2048.
+use crate::AT_REST;
 use crate::NO_SLOTS;
 use crate::Run;
-use crate::AT_REST;
 use crate::Watched;
 use fields::Tick;
 use numbers::absolute;

@@ -138,16 +138,14 @@ impl Grounds {
         let settings = self.settings;
         let timed = settings[CONTROL_MODE] == 1;
         let limit = settings[RETRY_LIMIT] as u32;
-        out_of(
-            from_fault(
-                timed,
-                limit,
-                self.nth,
-                self.retries,
-                self.clear,
-                self.blocked,
-            ),
-        )
+        out_of(from_fault(
+            timed,
+            limit,
+            self.nth,
+            self.retries,
+            self.clear,
+            self.blocked,
+        ))
     }
 
     fn own_move(self) -> Move

@@ -1,30 +1,30 @@
 -- What follows of a reached state, as other proofs want it.
-use mathlib.Core.Path.{_≡_, refl, ap, subst, sym}
+use mathlib.Core.Path.{_≡_, refl, ap}
 use mathlib.Core.Bool.{Bool, true, false, _||_, not, cond}
 use Prim.Native.Nat.{ℕ, zero, suc, _+_, _*_, _/_, _≤_, _<_, min}
 use native.Mathlib.Omega.{arith}
-use lib.Dec.{T, eqb, leb, eqb→eq}
+use lib.Dec.{T, eqb, leb}
 use lib.Ieee.Bits.{is-false}
 use lib.IntN.{ℤ, pos, negsuc, negℤ, natAbs}
 use lib.Signed.{quotZ}
-use mir.Facts.{T-not, not-T, leb-yes, ltb-yes, eqb-yes}
+use mir.Facts.{T-not, not-T, T-not-not, leb-yes, ltb-yes, eqb-yes}
 use Rattle.numbers.specs.Limit.{limit}
-use Rattle.states.specs.States.{numberOf, is, turning}
+use Rattle.states.specs.States.{is, turning}
 use Rattle.settings.specs.Settings.{OffsetPsc, CmdStart, CmdStop, mode1, samples}
-use Rattle.drive.specs.Flags.{none, any}
+use Rattle.faults.specs.Word.{bit, any}
 use Rattle.drive.specs.Command.{low, high}
 use Rattle.drive.specs.Offsets.{added}
-use Rattle.drive.specs.Answer.{alive, gate, reported}
+use Rattle.drive.specs.Answer.{gate, liveWord, reported}
 use Rattle.drive.specs.declared.Drive.{Drive}
 use Rattle.fields.specs.declared.Tick.{Tick}
 use Rattle.states.specs.declared.State.{State}
-use Rattle.drive.specs.declared.flags.Flags.{Flags}
 use Rattle.theorems_reached.specs.Reached.{RunWithin, AtMost, butHall, Reached}
 use Rattle.numbers.proofs.Tests.{by-test, decide}
 use Rattle.theorems_reached.proofs.Verdicts.{at-most, related-there}
-use Rattle.theorems_reached.proofs.Run.{still-within}
+use Rattle.theorems_reached.proofs.Run.{at-rest-within}
 use Rattle.theorems_reached.proofs.Offsets.{samples-small, added-exactly}
-use Rattle.theorems_reached.proofs.States.{turns}
+use Rattle.states.proofs.Every.{at-every}
+use Rattle.states.proofs.Groups.{turns}
 
 -- ---- numbers of the answer
 
@@ -38,30 +38,14 @@ unlimited (negsuc n) small = opposite-unlimited (suc n / 2048) (omega arith)
 
 -- ---- flags, gates and commands
 
--- eight flags and no ninth
-abbrev eight : Bool → Bool → Bool → Bool → Bool → Bool → Bool → Bool → Flags
-eight a b c d e f g h =
-    record { kill = a; critical = b; over = c; under = d; flux = e; heat = f; lock = g; timeout = h; hall = false }
-
-none-of-eight : (a b c d e f g h : Bool) → T (not (any (eight a b c d e f g h))) → eight a b c d e f g h ≡ none
-none-of-eight true b c d e f g h t = absurd t
-none-of-eight false true c d e f g h t = absurd t
-none-of-eight false false true d e f g h t = absurd t
-none-of-eight false false false true e f g h t = absurd t
-none-of-eight false false false false true f g h t = absurd t
-none-of-eight false false false false false true g h t = absurd t
-none-of-eight false false false false false false true h t = absurd t
-none-of-eight false false false false false false false true t = absurd t
-none-of-eight false false false false false false false false t = refl
-
--- without bit 1 the low sides are not all on
-no-brake : (s : State) (f : Flags) → T (not (f .critical)) → gate s f ≤ 2
-no-brake s f safe =
-    by-test (λ (g : ℕ). g ≤ 2) (f .kill) (λ t. omega arith)
+-- without a flag below 15 the low sides are not all on
+no-brake : (s : State) (live : ℕ) → butHall live ≡ 0 → gate s live ≤ 2
+no-brake s live none =
+    by-test (λ (g : ℕ). g ≤ 2) (bit 0 live) (λ t. omega arith)
     (λ t.
-    by-test (λ (g : ℕ). g ≤ 2) (f .critical) (λ u. absurd (T-not (f .critical) u safe))
+    by-test (λ (g : ℕ). g ≤ 2) (bit 1 live) (λ u. absurd (omega (arith, none, eqb-yes)))
     (λ u.
-    by-test (λ (g : ℕ). g ≤ 2) (any f) (λ v. omega arith)
+    by-test (λ (g : ℕ). g ≤ 2) (any live) (λ v. omega arith)
     (λ v.
     by-test (λ (g : ℕ). g ≤ 2) (is 3 s) (λ w. omega arith)
     (λ w. by-test (λ (g : ℕ). g ≤ 2) (turning s) {a = 2} {b = 0} (λ x. omega arith) (λ x. omega arith)))))
@@ -82,12 +66,12 @@ module _ (d : Drive) (r : Reached d) where
   -- Outside IDLE, in MOTORRUN or not, what runs is within its bounds.
   pub run-within : T (not (is 0 (d .state))) → RunWithin (d .settings) (d .run)
   run-within outside =
-      decide (is 4 (d .state)) (r .running)
-      (λ t. rw (r .resting t) (still-within (d .settings) (r .settings outside)))
+      decide (is 4 (d .state)) (r .run .running)
+      (λ t. rw (r .run .resting t) (at-rest-within (d .settings) (r .settings outside)))
 
   -- The speed reference is within plus or minus 32767 times 2048, in every state.
   pub reference-within : natAbs (d .run .reference) ≤ 32767 * 2048
-  reference-within = decide (is 4 (d .state)) (λ t. r .running t .reference) (λ t. rw (r .resting t) (omega arith))
+  reference-within = decide (is 4 (d .state)) (λ t. r .run .running t .reference) (λ t. rw (r .run .resting t) (omega arith))
 
   -- The reported reference is the quotient itself: the limit in `reported` never acts.
   pub reported-exactly : reported (d .run .reference) ≡ quotZ (d .run .reference) (pos 2048)
@@ -103,17 +87,17 @@ module _ (d : Drive) (r : Reached d) where
       → added first second (d .offsets) .sum
       ≡ record { first = d .offsets .sum .first + first; second = d .offsets .sum .second + second }
   sums-exactly first second first-fits second-fits =
-      added-exactly (OffsetPsc (d .settings)) first second (d .offsets) (r .offsets) first-fits second-fits
+      added-exactly (OffsetPsc (d .settings)) first second (d .offsets) (r .offsets .within) first-fits second-fits
 
   -- No sum needs more than 25 bits.
   pub sums-within : AtMost (4095 * 8192) (d .offsets .sum)
-  sums-within = let within = r .offsets in omega (arith, samples-small (OffsetPsc (d .settings)))
+  sums-within = let within = r .offsets .within in omega (arith, samples-small (OffsetPsc (d .settings)))
 
   -- In OFFSETCAL each sum has at most a sample of 4095 for each cycle, and at most N.
   pub summing-within :
       T (is 2 (d .state))
       → AtMost (4095 * min (d .cycles) (samples (OffsetPsc (d .settings)))) (d .offsets .sum)
-  summing-within t = let summing = r .summing t in let within = r .offsets in omega arith
+  summing-within t = let summing = r .offsets .summing t in let within = r .offsets .within in omega arith
 
   -- ---- retries
 
@@ -131,8 +115,7 @@ module _ (d : Drive) (r : Reached d) where
       is-false (d .armed) (not-T (d .armed) (λ t. T-not (is 1 (d .state) || is 2 (d .state)) (r .armed t) elsewhere))
 
   pub disarmed-in-fault : T (is 5 (d .state)) → d .armed ≡ false
-  disarmed-in-fault t =
-      disarmed (subst (λ (n : ℕ). T (not (eqb n 1 || eqb n 2))) (sym (eqb→eq (numberOf (d .state)) 5 t)) tt)
+  disarmed-in-fault t = disarmed (at-every (is 5) (λ s. not (is 1 s || is 2 s)) tt (d .state) t)
 
   pub disarmed-in-turning : T (turning (d .state)) → d .armed ≡ false
   disarmed-in-turning t = disarmed (turns (d .state) t .not-waiting)
@@ -155,16 +138,13 @@ module _ (d : Drive) (r : Reached d) where
 
   -- ---- flags and gates
 
-  pub no-flag-in-idle : T (is 0 (d .state)) → d .flags ≡ none
+  pub no-flag-in-idle : T (is 0 (d .state)) → d .flags ≡ 0
   no-flag-in-idle t = ap (λ (e : Drive). e .flags) (r .idle t)
 
   -- Outside FAULT nothing is live but flag 15, which waits for the next tick.
-  pub live-outside-fault : T (not (is 5 (d .state))) → butHall (alive d) ≡ none
-  live-outside-fault t =
-      let f = alive d in
-      none-of-eight (f .kill) (f .critical) (f .over) (f .under) (f .flux) (f .heat) (f .lock) (f .timeout) (r .quiet t)
+  pub live-outside-fault : T (not (is 5 (d .state))) → butHall (liveWord d) ≡ 0
+  live-outside-fault t = eqb-yes (T-not-not (eqb (butHall (liveWord d)) 0) (r .flags .quiet t))
 
   -- Outside FAULT the gates are off, charge or drive: the brake (3) is FAULT's alone.
-  pub no-brake-outside-fault : T (not (is 5 (d .state))) → gate (d .state) (alive d) ≤ 2
-  no-brake-outside-fault t =
-      no-brake (d .state) (alive d) (subst (λ (f : Flags). T (not (f .critical))) (sym (live-outside-fault t)) tt)
+  pub no-brake-outside-fault : T (not (is 5 (d .state))) → gate (d .state) (liveWord d) ≤ 2
+  no-brake-outside-fault t = no-brake (d .state) (liveWord d) (live-outside-fault t)

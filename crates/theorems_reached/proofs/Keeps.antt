@@ -1,83 +1,86 @@
 -- Power-up has what holds of reached states, and each call keeps it, so every sequence of calls does.
-use mathlib.Core.Path.{refl}
-use mathlib.Core.Bool.{not}
+use mathlib.Core.Path.{_≡_, refl}
+use mathlib.Core.Bool.{_||_, not}
 use mathlib.Core.List.{List, [], _∷_}
 use Prim.Native.Nat.{ℕ, _≤_}
 use native.Mathlib.Omega.{arith}
 use lib.Dec.{T}
+use lib.ListN.{replicate}
 use mir.Facts.{T-not, ltb-no}
 use mir.Syntax.{w16}
 use mir.Val.{toZ}
-use Rattle.states.specs.States.{is}
-use Rattle.settings.specs.Settings.{FaultEnable, HallAngleOffset}
+use Rattle.faults.proofs.Bits.{old-stays, new-bit, bit-flag, none-within, both-within, flag-within}
+use Rattle.states.specs.States.{is, turning}
+use Rattle.states.specs.declared.State.{State}
+use Rattle.states.proofs.Every.{at-every}
+use Rattle.settings.specs.Settings.{settingCount, FaultEnable, HallAngleOffset}
 use Rattle.verdicts.specs.Table.{verdict}
 use Rattle.drive.specs.Refusals.{loadRows, cycleRows, tickRows}
-use Rattle.drive.specs.Calls as Drives
-use Rattle.drive.specs.Calls.{powerUp, fresh, sample, cycled, ticked}
+use Rattle.drive.specs.Flags.{alwaysLive}
+use Rattle.drive.specs.Calls as Calls
+use Rattle.drive.specs.Calls.{powerUp, fresh, sample, cycled}
+use Rattle.drive.specs.Ticks as Ticks
+use Rattle.drive.specs.Ticks.{ticked}
 use Rattle.drive.specs.declared.Drive.{Drive}
 use Rattle.fields.specs.declared.Cycle.{Cycle}
 use Rattle.fields.specs.declared.Tick.{Tick}
-use Rattle.states.specs.declared.State.the-variants.{Stop}
-use Rattle.theorems_reached.specs.Reached.{Loaded, Reached}
+use Rattle.states.specs.declared.State.the-variants.{Idle, Stop}
+use Rattle.theorems_reached.specs.Reached.{Loaded, nineBits, Reached}
 use Rattle.drive.specs.AnyCall.{Call, loads, cycles, ticks, reply}
 use Rattle.theorems_history.specs.Log.{stateAfter}
 use Rattle.theorems_reached.specs.Machine.{machine}
 use Rattle.theorems_reached.proofs.Verdicts.{settled, passed, accepted-settings}
 use Rattle.theorems_reached.proofs.Hall.{hall-power-up, sampled-within, dead-flagged}
-use Rattle.theorems_reached.proofs.Offsets.{unmeasured-within, summed-within, summed-cycles, summed-measured}
-use Rattle.theorems_reached.proofs.Flags.{stays-with-hall}
-use Rattle.numbers.proofs.Tests.{or-right}
+use Rattle.theorems_reached.proofs.Offsets.{unmeasured-within, summed-in}
+use Rattle.theorems_reached.proofs.Flags.{same-but-hall}
+use Rattle.theorems_reached.proofs.Run.{at-rest-in}
 use Rattle.theorems_reached.proofs.Ticks.{ticked-reached}
 
-pub reached-power-up : Reached powerUp
-reached-power-up =
+-- "clears everything else to power-up values": of power-up and of an accepted load alike
+fresh-reached :
+    (s : State) (numbers : List ℕ)
+    → T (is 0 s || is 1 s)
+    → (T (is 0 s) → fresh s numbers ≡ powerUp)
+    → (T (not (is 0 s)) → Loaded numbers)
+    → Reached (fresh s numbers)
+fresh-reached s numbers first idle loaded =
+    let stands = at-every (λ s. is 0 s || is 1 s) (λ s. not (turning s)) tt s first in
+    let elsewhere = at-every (λ s. is 0 s || is 1 s) (λ s. not (is 2 s)) tt s first in
+    let safe = at-every (λ s. is 0 s || is 1 s) (λ s. not (is 5 s)) tt s first in
     record {
-      idle = λ t. refl;
-      settings = λ t. absurd t;
+      idle = idle;
+      settings = loaded;
       hall = hall-power-up;
       cycles = omega arith;
       ticks = omega arith;
       retries = omega arith;
-      running = λ t. absurd t;
-      resting = λ t. refl;
-      offsets = unmeasured-within _;
-      summing = λ t. absurd t;
-      measuring = λ t. absurd t;
-      measured = λ t. absurd t;
+      run = at-rest-in s numbers (at-every (λ s. is 0 s || is 1 s) (λ s. not (is 4 s)) tt s first);
+      offsets =
+          record {
+            within = unmeasured-within _;
+            summing = λ t. absurd (T-not (is 2 s) t elsewhere);
+            measuring = λ t. absurd (T-not (is 2 s) t elsewhere);
+            measured = λ t. absurd (T-not (turning s) t stands);
+          };
       armed = λ t. absurd t;
-      quiet = λ t. tt;
-      tripped = λ t. absurd t;
-      dead = λ live two. absurd (omega arith);
+      flags =
+          record {
+            known = none-within nineBits;
+            quiet = λ t. tt;
+            tripped = λ t. absurd (T-not (is 5 s) t safe);
+            dead = λ live two. absurd (omega arith);
+          };
     }
 
--- "An accepted load gives STOP and clears everything else to power-up values"
-loaded-reached : (numbers : List ℕ) → Loaded numbers → Reached (fresh Stop numbers)
-loaded-reached numbers loaded =
-    record {
-      idle = λ t. absurd t;
-      settings = λ t. loaded;
-      hall = hall-power-up;
-      cycles = omega arith;
-      ticks = omega arith;
-      retries = omega arith;
-      running = λ t. absurd t;
-      resting = λ t. refl;
-      offsets = unmeasured-within _;
-      summing = λ t. absurd t;
-      measuring = λ t. absurd t;
-      measured = λ t. absurd t;
-      armed = λ t. absurd t;
-      quiet = λ t. tt;
-      tripped = λ t. absurd t;
-      dead = λ live two. absurd (omega arith);
-    }
+pub reached-power-up : Reached powerUp
+reached-power-up = fresh-reached Idle (replicate settingCount 0) tt (λ t. refl) (λ t. absurd t)
 
 -- Each of the three calls keeps it, accepted or refused, whatever numbers it is told.
-pub load-keeps : (d : Drive) (numbers : List ℕ) → Reached d → Reached (Drives.load d numbers .drive)
-unfolding Drives.load
+pub load-keeps : (d : Drive) (numbers : List ℕ) → Reached d → Reached (Calls.load d numbers .drive)
+unfolding Calls.load
 load-keeps d numbers r =
     settled Reached (verdict (loadRows d numbers)) (fresh Stop numbers) d
-    (λ e. loaded-reached numbers (accepted-settings d numbers e))
+    (λ e. fresh-reached Stop numbers tt (λ t. absurd t) (λ t. accepted-settings d numbers e))
     r
 
 -- an accepted cycle: outside IDLE, with samples of at most 4095
@@ -97,28 +100,29 @@ cycled-reached d c r outside first second =
       cycles = omega arith;
       ticks = r .ticks;
       retries = r .retries;
-      running = r .running;
-      resting = r .resting;
-      offsets = summed-within d r c first second;
-      summing = summed-cycles d r c first second;
-      measuring = λ t. rw (summed-measured d r c first second) (r .measuring t);
-      measured = λ t. rw (summed-measured d r c first second) (r .measured t);
+      run = r .run;
+      offsets = summed-in d r c first second;
       armed = r .armed;
-      quiet = r .quiet;
-      tripped = λ t. stays-with-hall (FaultEnable (d .settings)) (sample d c .flagged) (d .flags) (r .tripped t);
-      dead = λ live two. or-right (d .flags .hall) (sample d c .flagged) (dead-flagged (d .hall) (c .pattern) _ two);
+      flags =
+          record {
+            known = both-within nineBits (d .flags) _ (r .flags .known) (flag-within nineBits 15 (sample d c .flagged) tt);
+            quiet = λ t. rw (same-but-hall (d .settings) (d .flags) (sample d c .flagged)) (r .flags .quiet t);
+            tripped = λ t. old-stays alwaysLive (FaultEnable (d .settings)) (d .flags) _ (r .flags .tripped t);
+            dead = λ live two.
+                new-bit 15 (d .flags) _ (bit-flag 15 (sample d c .flagged) (dead-flagged (d .hall) (c .pattern) _ two));
+          };
     }
 
-pub cycle-keeps : (d : Drive) (c : Cycle) → Reached d → Reached (Drives.cycle d c .drive)
-unfolding Drives.cycle
+pub cycle-keeps : (d : Drive) (c : Cycle) → Reached d → Reached (Calls.cycle d c .drive)
+unfolding Calls.cycle
 cycle-keeps d c r =
     settled Reached (verdict (cycleRows d c)) (cycled d c) d
     (λ e.
     let p = passed (cycleRows d c) tt e in cycled-reached d c r (p .0) (ltb-no (p .1 .1 .0)) (ltb-no (p .1 .1 .1 .0)))
     r
 
-pub tick-keeps : (d : Drive) (t : Tick) → Reached d → Reached (Drives.tick d t .drive)
-unfolding Drives.tick
+pub tick-keeps : (d : Drive) (t : Tick) → Reached d → Reached (Ticks.tick d t .drive)
+unfolding Ticks.tick
 tick-keeps d t r =
     settled Reached (verdict (tickRows d t)) (ticked d t) d
     (λ e.

@@ -3,7 +3,6 @@ pub mod Verdicts
 pub mod Hall
 pub mod Run
 pub mod Offsets
-pub mod States
 pub mod Flags
 pub mod Ticks
 pub mod Keeps

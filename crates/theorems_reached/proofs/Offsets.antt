@@ -15,7 +15,7 @@ use Rattle.drive.specs.Calls.{summed}
 use Rattle.drive.specs.declared.Drive.{Drive}
 use Rattle.fields.specs.declared.Cycle.{Cycle}
 use Rattle.drive.specs.declared.offsets.Offsets.{Offsets}
-use Rattle.theorems_reached.specs.Reached.{AtMost, OffsetsWithin, Reached}
+use Rattle.theorems_reached.specs.Reached.{AtMost, OffsetsWithin, OffsetsIn, Reached}
 use Rattle.numbers.proofs.Tests.{by-test}
 
 -- "In OFFSETCAL the first N": the samples of this cycle are summed
@@ -67,23 +67,33 @@ module _ (d : Drive) (r : Reached d) (c : Cycle) (first-small : c .first ≤ 409
       × AtMost (4095 * (d .cycles + 1)) (added (c .first) (c .second) (d .offsets) .sum)
   one-more t =
       let now = and-yes (is 2 (d .state)) (ltb (d .cycles) (samples (OffsetPsc (d .settings)))) t in
-      let before : AtMost (4095 * d .cycles) (d .offsets .sum) = r .summing (now .0) in (
+      let before : AtMost (4095 * d .cycles) (d .offsets .sum) = r .offsets .summing (now .0) in (
         ltb-yes (now .1),
-        rw (added-exactly _ (c .first) (c .second) (d .offsets) (r .offsets) (omega arith) (omega arith)) (omega arith),
+        rw (added-exactly _ (c .first) (c .second) (d .offsets) (r .offsets .within) (omega arith) (omega arith)) (omega arith),
       )
 
-  pub summed-within : OffsetsWithin (samples (OffsetPsc (d .settings))) (summed d c)
+  summed-within : OffsetsWithin (samples (OffsetPsc (d .settings))) (summed d c)
   summed-within =
-      let within = r .offsets in
+      let within = r .offsets .within in
       by-test (OffsetsWithin (samples (OffsetPsc (d .settings)))) (sums d)
       (λ t. let more = one-more t in record { unmeasured = within .unmeasured; value = within .value; sum = omega arith })
       (λ t. within)
 
-  pub summed-cycles : T (is 2 (d .state)) → AtMost (4095 * up 65535 (d .cycles)) (summed d c .sum)
+  summed-cycles : T (is 2 (d .state)) → AtMost (4095 * up 65535 (d .cycles)) (summed d c .sum)
   summed-cycles t =
       by-test (λ (o : Offsets). AtMost (4095 * up 65535 (d .cycles)) (o .sum)) (sums d)
       (λ u. let more = one-more u in omega (arith, samples-small (OffsetPsc (d .settings))))
-      (λ u. let before = r .summing t in omega arith)
+      (λ u. let before = r .offsets .summing t in omega arith)
 
-  pub summed-measured : summed d c .measured ≡ d .offsets .measured
+  summed-measured : summed d c .measured ≡ d .offsets .measured
   summed-measured = by-test (λ (o : Offsets). o .measured ≡ d .offsets .measured) (sums d) (λ t. refl) (λ t. refl)
+
+  -- and so a cycle keeps what holds of the offsets
+  pub summed-in : OffsetsIn (d .state) (samples (OffsetPsc (d .settings))) (up 65535 (d .cycles)) (summed d c)
+  summed-in =
+      record {
+        within = summed-within;
+        summing = summed-cycles;
+        measuring = λ t. rw summed-measured (r .offsets .measuring t);
+        measured = λ t. rw summed-measured (r .offsets .measured t);
+      }

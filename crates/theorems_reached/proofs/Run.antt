@@ -1,6 +1,6 @@
 -- What runs in MOTORRUN stays within its bounds: counts are capped where they grow, and the reference lies between two speeds times 2048.
 use mathlib.Core.Path.{_≡_, refl}
-use mathlib.Core.Bool.{Bool, true, false, _||_}
+use mathlib.Core.Bool.{Bool, true, false, _||_, not}
 use mathlib.Core.List.{List}
 use Prim.Native.Nat.{ℕ, zero, suc, _*_, _≤_, _<_}
 use native.Mathlib.Omega.{arith}
@@ -8,16 +8,20 @@ use lib.Dec.{T, eqb, ltb}
 use lib.IntN.{ℤ, pos, negsuc, negℤ, natAbs, _+ℤ_, _-ℤ_}
 use lib.Ieee.Bits.{is-true}
 use lib.Signed.{leZ, ltZ}
-use mir.Facts.{eqb-no}
+use mir.Facts.{eqb-no, T-not}
 use Rattle.numbers.specs.Count.{up}
 use Rattle.numbers.proofs.Order.{below-is-at-most, goes-up, goes-down, between}
 use Rattle.settings.specs.Settings.{FluxFaultTime, MinSpd, SpdRampRate, CmdStart, CmdGain, mode1}
-use Rattle.motor.specs.Counts.{still, slotLength, badFlux, locked, ends, nextSlots, lasting, watched}
-use Rattle.motor.specs.Reference.{times2048, target0, target1, targetOf, toward, starting, ran}
+use Rattle.motor.specs.Counts.{atRest, slotLength, badFlux, locked, ends, nextSlots, lasting, watched}
+use Rattle.motor.specs.Reference.{times2048, target0, target1, targetOf, toward, starting, ran, after}
 use Rattle.fields.specs.declared.Tick.{Tick}
 use Rattle.motor.specs.declared.Run.{Run}
 use Rattle.motor.specs.declared.Slots.{Slots}
-use Rattle.theorems_reached.specs.Reached.{Loaded, RunWithin}
+use Rattle.motor.specs.declared.Watched.{Watched}
+use Rattle.states.specs.States.{is}
+use Rattle.states.specs.declared.State.{State}
+use Rattle.states.specs.declared.State.the-variants.{Stop}
+use Rattle.theorems_reached.specs.Reached.{Loaded, RunWithin, RunIn}
 use Rattle.numbers.proofs.Tests.{by-test}
 use Rattle.theorems_reached.proofs.Verdicts.{at-least, at-most}
 
@@ -111,8 +115,8 @@ row-within length bad slots small =
 slot-length : (s : List ℕ) → Loaded s → 0 < slotLength (FluxFaultTime s)
 slot-length s loaded = omega (arith, at-least loaded 7 (omega arith))
 
-pub still-within : (s : List ℕ) → Loaded s → RunWithin s still
-still-within s loaded =
+pub at-rest-within : (s : List ℕ) → Loaded s → RunWithin s atRest
+at-rest-within s loaded =
     record {
       slot = slot-length s loaded;
       row = omega arith;
@@ -121,7 +125,7 @@ still-within s loaded =
       reference = omega arith;
     }
 
-pub starting-within : (s : List ℕ) (t : Tick) → Loaded s → natAbs (t .speed) ≤ 32767 → RunWithin s (starting t)
+starting-within : (s : List ℕ) (t : Tick) → Loaded s → natAbs (t .speed) ≤ 32767 → RunWithin s (starting t)
 starting-within s t loaded small =
     record {
       slot = slot-length s loaded;
@@ -131,7 +135,7 @@ starting-within s t loaded small =
       reference = scaled (t .speed) small;
     }
 
-pub ran-within :
+ran-within :
     (s : List ℕ) (t : Tick) (stillCount : ℕ) (r : Run)
     → Loaded s
     → natAbs (t .target) ≤ 32767
@@ -149,3 +153,37 @@ ran-within s t stillCount r loaded small within =
           (scaled (targetOf s t) (target-within s t loaded small))
           (within .reference);
     }
+
+-- ---- by the state
+
+pub at-rest-in : (state : State) (s : List ℕ) → T (not (is 4 state)) → RunIn state s atRest
+at-rest-in state s elsewhere = record { running = λ u. absurd (T-not (is 4 state) u elsewhere); resting = λ u. refl }
+
+pub rests-in-stop : (s : List ℕ) → RunIn Stop s atRest
+rests-in-stop s = at-rest-in Stop s tt
+
+module _ (s : List ℕ) (t : Tick) (loaded : Loaded s) where
+  -- after a tick that enters a state
+  pub entered-in :
+      (w : Watched) (run : Run) (state : State)
+      → natAbs (t .speed) ≤ 32767
+      → RunIn state s (after s t w false (is 4 state) run)
+  entered-in w run state small =
+      by-test (RunIn state s) (is 4 state)
+      (λ u. record { running = λ v. starting-within s t loaded small; resting = λ v. absurd (T-not (is 4 state) u v) })
+      (at-rest-in state s)
+
+  -- after a tick that stays in its state
+  pub stayed-in :
+      (stillCount : ℕ) (run : Run) (state : State)
+      → natAbs (t .target) ≤ 32767
+      → RunIn state s run
+      → RunIn state s (after s t (watched s t stillCount run) (is 4 state) false run)
+  stayed-in stillCount run state small within =
+      by-test (RunIn state s) (is 4 state)
+      (λ u.
+      record {
+        running = λ v. ran-within s t stillCount run loaded small (within .running v);
+        resting = λ v. absurd (T-not (is 4 state) u v);
+      })
+      (at-rest-in state s)

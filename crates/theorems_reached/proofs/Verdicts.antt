@@ -10,8 +10,9 @@ use lib.ListN.{length, getD}
 use lib.Ieee.Bits.{is-false}
 use mir.Facts.{T-not-not, and-yes, eqb-yes}
 use Rattle.numbers.proofs.Tests.{by-test}
-use Rattle.numbers.proofs.Table.{at}
 use Rattle.verdicts.specs.Table.{Row, verdict}
+use Rattle.settings.specs.Settings.{settingCount}
+use Rattle.settings.proofs.Places.{place-at}
 use Rattle.settings.specs.Rules.{rule, related, indices, lowest, highest, settingRow, settingRows}
 use Rattle.states.specs.States.{is}
 use Rattle.drive.specs.Answer.{reply}
@@ -24,17 +25,20 @@ use Rattle.theorems_reached.specs.Reached.{Loaded}
 
 -- a call that settles by its verdict: what holds of its reply if it is accepted, and if it is refused, holds of it
 pub settles :
-    (P : Reply → Type 0) (v : Verdict) (next d : Drive)
+    (P : Reply → Type 0) (v : Verdict) (next left : Drive)
     → (v .number ≡ 0 → P (reply 0 0 next))
-    → (eqb (v .number) 0 ≡ false → P (reply (v .number) (v .place) d))
-    → P (settle v next d)
-settles P v next d accepted refused =
+    → (eqb (v .number) 0 ≡ false → P (reply (v .number) (v .place) left))
+    → P (settle v next left)
+settles P v next left accepted refused =
     by-test P (eqb (v .number) 0) (λ t. accepted (eqb-yes t)) (λ t. refused (is-false (eqb (v .number) 0) t))
 
 -- so of the state that it leaves
 pub settled :
-    (P : Drive → Type 0) (v : Verdict) (next d : Drive) → (v .number ≡ 0 → P next) → P d → P (settle v next d .drive)
-settled P v next d accepted refused = settles (λ (r : Reply). P (r .drive)) v next d accepted (λ number. refused)
+    (P : Drive → Type 0) (v : Verdict) (next left : Drive)
+    → (v .number ≡ 0 → P next)
+    → P left
+    → P (settle v next left .drive)
+settled P v next left accepted refused = settles (λ (r : Reply). P (r .drive)) v next left accepted (λ number. refused)
 
 -- no row of the table holds
 abbrev pub Passed : List Row → Type 0
@@ -73,10 +77,6 @@ rule-at s [] p k h = absurd (not-suc-le-zero h)
 rule-at s (i ∷ places) p zero h = T-not-not (rule s i) (p .0)
 rule-at s (i ∷ places) p (suc k) h = rule-at s places (p .1) k (le-of-suc-le-suc h)
 
--- the rows' places are 0, 1, 2 and so on
-place-at : (k : ℕ) → k < 24 → getD indices k 0 ≡ k
-place-at k h = eqb→eq (getD indices k 0) k (at (λ i x. eqb x i) indices 0 tt k h)
-
 -- an accepted load was made in IDLE or STOP, and its settings keep their rules
 pub accepted-state :
     (d : Drive) (numbers : List ℕ)
@@ -90,12 +90,12 @@ unfolding settingRows
 accepted-settings d numbers e =
     let p = passed (loadRows d numbers) tt e in
     record {
-      count = eqb→eq (length numbers) 24 (T-not-not (eqb (length numbers) 24) (p .1 .0));
+      count = eqb→eq (length numbers) settingCount (T-not-not (eqb (length numbers) settingCount) (p .1 .0));
       rules = λ i h. rw (place-at i h) at (rule-at numbers indices (p .1 .1) i h);
     }
 
 -- an accepted setting lies in the range of its place, and in the relation that its place asks for
-module _ {s : List ℕ} (loaded : Loaded s) (i : ℕ) (h : i < 24) where
+module _ {s : List ℕ} (loaded : Loaded s) (i : ℕ) (h : i < settingCount) where
   abbrev low : Bool
   low = leb (getD lowest i 0) (getD s i 0)
 

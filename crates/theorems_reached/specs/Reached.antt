@@ -1,8 +1,8 @@
 -- What holds of every drive state that a sequence of calls from power-up reaches.
 use mathlib.Core.Path.{_≡_}
-use mathlib.Core.Bool.{false, _||_, not}
+use mathlib.Core.Bool.{true, _||_, not}
 use mathlib.Core.List.{List}
-use Prim.Native.Nat.{ℕ, _*_, _^_, _≤_, _<_}
+use Prim.Native.Nat.{ℕ, _*_, _%_, _^_, _≤_, _<_}
 use lib.Dec.{T}
 use lib.IntN.{natAbs}
 use lib.ListN.{length}
@@ -13,23 +13,25 @@ use Rattle.hall.specs.declared.Hall.{Hall}
 use Rattle.hall.specs.declared.fate.Kept.{Kept}
 use Rattle.hall.specs.declared.fate.Kept.the-variants.{Nothing, Pattern}
 use Rattle.states.specs.States.{is, turning}
-use Rattle.settings.specs.Settings.{FaultEnable, FluxFaultTime, RotorLockTime, HallTimeoutPeriod, OffsetPsc, RetryLimit, samples}
-use Rattle.drive.specs.Flags.{bit}
+use Rattle.states.specs.declared.State.{State}
+use Rattle.settings.specs.Settings.{settingCount, samples, FaultEnable, FluxFaultTime, RotorLockTime, HallTimeoutPeriod}
+use Rattle.settings.specs.Settings.{OffsetPsc, RetryLimit}
+use Rattle.faults.specs.Word.{bit, flag, _or_, any}
+use Rattle.drive.specs.Flags.{alive}
 use Rattle.drive.specs.Offsets.{zero}
 use Rattle.motor.specs.Counts as Runs
 use Rattle.settings.specs.Rules.{rule}
-use Rattle.drive.specs.Calls.{powerUp, alight}
+use Rattle.drive.specs.Calls.{powerUp}
 use Rattle.drive.specs.declared.Drive.{Drive}
-use Rattle.drive.specs.declared.flags.Flags.{Flags}
 use Rattle.drive.specs.declared.offsets.Pair.{Pair}
 use Rattle.drive.specs.declared.offsets.Offsets.{Offsets}
 use Rattle.motor.specs.declared.Run.{Run}
 
 -- settings that a load has accepted
 pub record Loaded (settings : List ℕ) : Type 0 where
-  pub count : length settings ≡ 24
+  pub count : length settings ≡ settingCount
   -- each keeps the rule of its place, counted from 0
-  pub rules : (i : ℕ) → i < 24 → T (rule settings i)
+  pub rules : (i : ℕ) → i < settingCount → T (rule settings i)
 
 -- the kept pattern is none, or one of 1, 3, 2, 6, 4, 5
 abbrev pub Known : Kept → Type 0
@@ -74,20 +76,39 @@ pub record OffsetsWithin (n : ℕ) (offsets : Offsets) : Type 0 where
   pub value : AtMost 4095 (offsets .value)
   pub sum : AtMost (4095 * n) (offsets .sum)
 
--- all flags but flag 15, which a cycle sets
-abbrev pub butHall : Flags → Flags
-butHall f =
-    record {
-      kill = f .kill;
-      critical = f .critical;
-      over = f .over;
-      under = f .under;
-      flux = f .flux;
-      heat = f .heat;
-      lock = f .lock;
-      timeout = f .timeout;
-      hall = false;
-    }
+-- what runs: "Bits 4, 7 and 14 count only ticks taken in MOTORRUN"; "other states hold 0"
+pub record RunIn (state : State) (settings : List ℕ) (run : Run) : Type 0 where
+  pub running : T (is 4 state) → RunWithin settings run
+  pub resting : T (not (is 4 state)) → run ≡ Runs.atRest
+
+-- the offsets by the state, and by its cycles
+pub record OffsetsIn (state : State) (n cycles : ℕ) (offsets : Offsets) : Type 0 where
+  -- no sum is beyond N samples of 4095, which 25 bits hold
+  pub within : OffsetsWithin n offsets
+  -- in OFFSETCAL each sum has at most a sample a cycle
+  pub summing : T (is 2 state) → AtMost (4095 * cycles) (offsets .sum)
+  -- after a load the offsets are measured once, before the first start
+  pub measuring : T (is 2 state) → T (not (offsets .measured))
+  pub measured : T (turning state) → T (offsets .measured)
+
+-- the nine bits that a cause or a sample sets
+abbrev pub nineBits : ℕ
+nineBits =
+    flag 0 true or flag 1 true or flag 2 true or flag 3 true or flag 4 true or flag 6 true or flag 7 true or flag 14 true or flag 15 true
+
+-- the bits below 15: flag 15 is the one that a cycle sets
+abbrev pub butHall : ℕ → ℕ
+butHall word = word % 2 ^ 15
+
+-- the fault word by the state
+pub record FlagsIn (state : State) (settings : List ℕ) (deadStreak flags : ℕ) : Type 0 where
+  pub known : (k : ℕ) → T (bit k flags) → T (bit k nineBits)
+  -- "Outside FAULT, any live flag moves to FAULT": of the live ones only flag 15 waits for a tick
+  pub quiet : T (not (is 5 state)) → T (not (any (butHall (alive settings flags))))
+  -- FAULT is entered with a live flag, and the flags "stay until cleared"
+  pub tripped : T (is 5 state) → T (any (alive settings flags))
+  -- "At 2, flag 15 is set", and while the streak stands no exit from FAULT clears the flag, unless it is masked
+  pub dead : T (bit 15 (FaultEnable settings)) → deadStreak ≡ 2 → T (bit 15 flags)
 
 -- a reached state
 pub record Reached (d : Drive) : Type 0 where
@@ -95,28 +116,14 @@ pub record Reached (d : Drive) : Type 0 where
   pub idle : T (is 0 (d .state)) → d ≡ powerUp
   -- elsewhere the settings are those of an accepted load
   pub settings : T (not (is 0 (d .state))) → Loaded (d .settings)
-  -- in every state
   pub hall : HallWithin (d .hall)
   -- "Cycles in the present state are counted to at most 65535", and so are ticks
   pub cycles : d .cycles ≤ 65535
   pub ticks : d .ticks ≤ 65535
   -- a retry is taken "with fewer than RetryLimit retries used"
   pub retries : d .retries ≤ RetryLimit (d .settings)
-  -- "Bits 4, 7 and 14 count only ticks taken in MOTORRUN"; "other states hold 0"
-  pub running : T (is 4 (d .state)) → RunWithin (d .settings) (d .run)
-  pub resting : T (not (is 4 (d .state))) → d .run ≡ Runs.atRest
-  -- no sum is beyond N samples of 4095, which 25 bits hold
-  pub offsets : OffsetsWithin (samples (OffsetPsc (d .settings))) (d .offsets)
-  -- in OFFSETCAL each sum has at most a sample a cycle
-  pub summing : T (is 2 (d .state)) → AtMost (4095 * d .cycles) (d .offsets .sum)
-  -- after a load the offsets are measured once, before the first start
-  pub measuring : T (is 2 (d .state)) → T (not (d .offsets .measured))
-  pub measured : T (turning (d .state)) → T (d .offsets .measured)
+  pub run : RunIn (d .state) (d .settings) (d .run)
+  pub offsets : OffsetsIn (d .state) (samples (OffsetPsc (d .settings))) (d .cycles) (d .offsets)
   -- "A start or entry to FAULT disarms", a low in FAULT does not arm, and one in a turning state stops
   pub armed : T (d .armed) → T (is 1 (d .state) || is 2 (d .state))
-  -- "Outside FAULT, any live flag moves to FAULT": of the live ones only flag 15 waits for a tick
-  pub quiet : T (not (is 5 (d .state))) → T (not (alight d (butHall (d .flags))))
-  -- FAULT is entered with a live flag, and the flags "stay until cleared"
-  pub tripped : T (is 5 (d .state)) → T (alight d (d .flags))
-  -- "At 2, flag 15 is set", and while the streak stands no exit from FAULT clears the flag, unless it is masked
-  pub dead : T (bit 15 (FaultEnable (d .settings))) → d .hall .«dead_streak» ≡ 2 → T (d .flags .hall)
+  pub flags : FlagsIn (d .state) (d .settings) (d .hall .«dead_streak») (d .flags)
