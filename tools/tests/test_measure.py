@@ -1,16 +1,10 @@
-"""Tests of `measure`: python3 -m unittest discover tools/tests"""
+"""Tests of `measure`."""
 
-import importlib.machinery
-import importlib.util
 import tempfile
 import unittest
 from pathlib import Path
 
-PROGRAM = Path(__file__).resolve().parent.parent / "measure"
-LOADER = importlib.machinery.SourceFileLoader("measure", str(PROGRAM))
-SPEC = importlib.util.spec_from_loader("measure", LOADER)
-measure = importlib.util.module_from_spec(SPEC)
-LOADER.exec_module(measure)
+from rudavesh import measure, places
 
 LOG = "fn pump::turn: proved\nlogic=proved functions=7 axioms=2 target=x\nrt: pump proved (12 s)\n"
 
@@ -36,7 +30,7 @@ class Measure(unittest.TestCase):
             file.write_text(text)
 
     def test_crates_in_their_order(self) -> None:
-        self.assertEqual(measure.crate_names("# NAME: what\npump:\nhall: pump\n\n# more\nrun: hall io\n"), ["pump", "hall", "run"])
+        self.assertEqual(places.crate_names("# NAME: what\npump:\nhall: pump\n\n# more\nrun: hall io\n"), ["pump", "hall", "run"])
 
     def test_row(self) -> None:
         self.assertEqual(measure.row(self.root, "pump"), "| pump | 12 s | 8 s | 3 | 2 | - | 7 | 2 | 2 |")
@@ -47,6 +41,23 @@ class Measure(unittest.TestCase):
         (self.root / "target/must-fail/pump/b.out").unlink()
         self.assertEqual(measure.row(self.root, "pump"), "| pump | - | - | 3 | 2 | - | - | - | 2 |")
 
-
-if __name__ == "__main__":
-    unittest.main()
+    def test_totals_need_no_check(self) -> None:
+        for path, text in {
+            "crates.txt": "pump:\nhall: pump\n",
+            "crates/hall/proofs/Why.antt": "-- why\n" + "x = y\n" * 300,
+            "crates/hall/stdout": "z" * 400 + "\n",
+            "model/src/lib.rs": "// \u00e9\u00e9\u00e9\u00e9\u00e9\u00e9\u00e9\n",
+            "model/target/out.rs": "w" * 500 + "\n",
+            "tools/compare": "#!/usr/bin/env python3\n",
+            "tools/tests/test.py": "pass\n" * 300,
+        }.items():
+            file = self.root / path
+            file.parent.mkdir(parents=True, exist_ok=True)
+            file.write_text(text, encoding="utf-8")
+        self.assertEqual(measure.totals(self.root), [
+            "| lines of code | 3 |",
+            "| lines of definitions | 2 |",
+            "| lines of proof | 300 |",
+            "| longest line | 22 bytes, in tools/compare |",
+            "| files over 300 lines | 1 of 6 |",
+        ])  # fmt: skip

@@ -1,15 +1,8 @@
-"""Tests of `strength`: python3 -m unittest discover tools/tests"""
+"""Tests of `strength`."""
 
-import importlib.machinery
-import importlib.util
 import unittest
-from pathlib import Path
 
-PROGRAM = Path(__file__).resolve().parent.parent / "strength"
-LOADER = importlib.machinery.SourceFileLoader("strength", str(PROGRAM))
-SPEC = importlib.util.spec_from_loader("strength", LOADER)
-strength = importlib.util.module_from_spec(SPEC)
-LOADER.exec_module(strength)
+from rudavesh import sources, strength
 
 CODE = """\
 // one + two
@@ -100,12 +93,8 @@ class Strength(unittest.TestCase):
         self.assertEqual(self.changed("            left: self.left,"), [])
 
     def test_every_crate_has_changes(self):
-        for crate in strength.CRATES:
+        for crate in sources.called_crates():
             found = strength.changes(crate)
             self.assertTrue(found, crate)
             for change in found:
                 self.assertNotEqual(change.old.split("//")[0].rstrip(), change.new.rstrip(), str(change))
-
-
-if __name__ == "__main__":
-    unittest.main()

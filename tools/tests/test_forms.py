@@ -1,0 +1,69 @@
+"""Tests of what the tools share: the records' form, the line's form, the lists of crates and programs."""
+
+import unittest
+
+from rudavesh import line_form, places, record_form, strip
+from rudavesh.expected.shiftline_example import OUTPUT
+
+from .paper import PAPER_LOAD, SETTINGS, TICK_FIELDS, cycle, line, load, tick
+
+
+class RecordForm(unittest.TestCase):
+    def test_kinds_as_the_paper_has_them(self):
+        self.assertEqual([(kind.letter, kind.size) for kind in record_form.KINDS], [("L", 49), ("C", 6), ("T", 20)])
+        self.assertEqual([one.name for one in record_form.LOAD.fields], SETTINGS)
+        self.assertEqual([one.name for one in record_form.TICK.fields], TICK_FIELDS)
+
+    def test_bytes(self):
+        self.assertEqual(record_form.LOAD.packed(*record_form.LOAD.defaults), load(*PAPER_LOAD))
+        self.assertEqual(record_form.CYCLE.packed(3, 1, 2), cycle(3, 1, 2))
+        self.assertEqual(record_form.TICK.packed(*record_form.TICK.defaults), tick())
+
+    def test_a_default_keeps_its_rule_and_a_relation_names_a_setting(self):
+        for kind in record_form.KINDS:
+            values = dict(zip((one.name for one in kind.fields), kind.defaults))
+            for one in kind.fields:
+                self.assertTrue(one.allows(one.default), one.name)
+                if one.relation:
+                    self.assertTrue(one.relation.holds(one.default, values[one.relation.other]), one.name)
+
+    def test_relations_at_their_edge(self):
+        below, further, not_below = record_form.below("x"), record_form.below("x", by=64), record_form.not_below("x")
+        self.assertEqual([below.holds(value, 70) for value in (69, 70)], [True, False])
+        self.assertEqual([further.holds(value, 70) for value in (6, 7)], [True, False])
+        self.assertEqual([not_below.holds(value, 70) for value in (69, 70)], [False, True])
+
+
+class LineForm(unittest.TestCase):
+    def test_length(self):
+        self.assertEqual(line_form.LENGTH, 45)
+        self.assertEqual({len(text) for text in OUTPUT.splitlines(keepends=True)}, {45})
+
+    def test_what_is_read_is_written(self):
+        for text in [*OUTPUT.splitlines(keepends=True), line(15, "ANGLESENSING", 3, 0xBEEF, -32768, 0xDEADBEEF, -1)]:
+            self.assertEqual(line_form.written(line_form.read(text.rstrip("\n"))), text)
+
+    def test_each_column(self):
+        self.assertEqual(line_form.read(line(1, "FAULT", 3, 0x8002, -5, -1, 7).rstrip("\n")),
+                         line_form.Report(1, "FAULT", 3, 0x8002, -5, 2**32 - 1, 7))  # fmt: skip
+
+    def test_a_line_of_another_form_beside_this_one(self):
+        """As a later board may print it; an earlier log is still read."""
+        longer = line_form.Form(*line_form.FORM_OF_45_BYTES.columns, line_form.Column("angle2", 1, "[0-9]", int, str))
+        self.assertEqual(longer.length, 47)
+        self.assertIsNotNone(longer.pattern.fullmatch(line().rstrip("\n") + " 3"))
+        self.assertIsNone(longer.pattern.fullmatch(line().rstrip("\n")))
+        self.assertIsNone(line_form.read(line().rstrip("\n") + " 3"))
+
+    def test_strip_draws_every_state_and_gate(self):
+        self.assertEqual(sorted(strip.STATES), sorted(line_form.STATES))
+        self.assertEqual(sorted(strip.GATES), list(range(len(line_form.GATES))))
+
+
+class Places(unittest.TestCase):
+    def test_every_program_is_listed_and_there(self):
+        crates = places.crates_of(places.ROOT)
+        for word in places.listed((places.TOOLS / "programs.txt").read_text()):
+            folder = places.program_folder(word)
+            self.assertIn(folder.name, crates, word)
+            self.assertTrue((folder / "src" / "main.rt").exists(), word)
