@@ -1,0 +1,14 @@
+"""The tools beside the proved crates, as one package: the commands in tools/ only call a main of it. Python 3.9, nothing else installed.
+
+What more than one tool has to know stands once:
+  places        the root, the crates of crates.txt, the programs of programs.txt
+  sources       files of Rattle, and their lines without blank ones and comments
+  record_form   kinds of record: letters, fields, sizes, ranges, defaults
+  line_form     the report line: columns, names of states and gates, meanings of bits and refusals
+  model         where the model's programs are, how they are built and run
+The tools:
+  records, records_text                 tools/records
+  strip, strip_picture, strip_runs      tools/strip
+  compare, strength, measure            the commands of these names
+  stored, expected                      tools/stored
+  citations                             a test: what the docs cite is there"""

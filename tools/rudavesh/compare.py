@@ -1,0 +1,70 @@
+"""tools/compare [SEEDS [RECORDS]]: runs the proved program and the independent model (model/, written from document 01 alone) over the
+same generated records, and counts the lines in which they differ. Default: 40 seeds of 25,000 records, and three of 150,000 for what is
+slow."""
+
+import re
+import shutil
+import subprocess
+import sys
+import tempfile
+from pathlib import Path
+from typing import List, Tuple
+
+from . import model
+from .places import ROOT
+
+SEEDS, RECORDS = 40, 25_000
+LONG_SEEDS, LONG_RECORDS = (4, 7, 9), 150_000
+SHOWN_OF_REACHED = re.compile("streams|records|listed|counted|at zero")
+
+
+def proved(records: Path) -> bytes:
+    """The lines of the proved program."""
+    with records.open("rb") as stream:
+        return subprocess.run([ROOT / "shiftline"], stdin=stream, stdout=subprocess.PIPE, check=True).stdout
+
+
+def difference(expected: Path, found: Path) -> List[str]:
+    """The lines that `diff` prints of two files."""
+    done = subprocess.run(["diff", "--speed-large-files", expected, found], stdout=subprocess.PIPE, check=False)
+    return done.stdout.decode("ascii", errors="replace").splitlines()
+
+
+def compare(work: Path, seed: int, records: int) -> Tuple[int, int]:
+    """Lines compared, and lines that differ, of the stream of one seed."""
+    stream, by_model, by_program = work / f"records.{seed}.{records}", work / "model", work / "proved"
+    stream.write_bytes(model.generated(seed, records))
+    by_model.write_bytes(model.lines(stream.read_bytes()))
+    by_program.write_bytes(proved(stream))
+    compared = by_model.read_bytes().count(b"\n")
+    if by_model.read_bytes() == by_program.read_bytes():
+        return compared, 0
+    told = difference(by_model, by_program)
+    different = sum(line.startswith(("<", ">")) for line in told)
+    print(f"seed {seed}: {different} lines differ; the first:", *told[:4], sep="\n", flush=True)
+    return compared, different
+
+
+def main() -> int:
+    given = sys.argv[1:]
+    if any(not word.isdigit() for word in given) or len(given) > 2:
+        print(__doc__)
+        return 0 if given[0] in ("-h", "--help") else 2
+    if not model.can_be_built():
+        print(model.NO_CARGO, file=sys.stderr)
+        return 2
+    if not shutil.which("rt"):
+        print("The Rattle kit is missing: its command rt is not on the PATH.", file=sys.stderr)
+        return 2
+    seeds, records = [int(word) for word in given] + [SEEDS, RECORDS][len(given) :]
+    todo = [(seed, records) for seed in range(1, seeds + 1)]
+    if not given:
+        todo += [(seed, LONG_RECORDS) for seed in LONG_SEEDS]
+    model.build()
+    with tempfile.TemporaryDirectory() as folder:
+        work = Path(folder)
+        counts = [compare(work, seed, records) for seed, records in todo]
+        print(*(line for line in model.reached(sorted(work.glob("records.*"))) if SHOWN_OF_REACHED.match(line)), sep="\n")
+    different = sum(count for _, count in counts)
+    print(f"{sum(count for count, _ in counts)} lines compared, {different} differences")
+    return 1 if different else 0

@@ -1,0 +1,53 @@
+"""What the program shiftline reads and must print. First document 01's own example: its input, made from the paper's numbers, and its
+output, typed from the paper. Behind it a shaft that turns on, for more bytes than the program reads at once, then an unknown record with
+whole ones after it, and the lines that the paper's rules give for these."""
+
+from ..line_form import Report, written
+from ..record_form import CYCLE, LOAD, TICK
+from . import Files
+
+# The paper's settings are what a load of the text form takes by default, and so are the fields of its tick.
+QUIET = TICK.defaults
+CLEARS = [1 if one.name == "clear" else one.default for one in TICK.fields]
+OVER_VOLTAGE = [3001 if one.name == "VdcFilt" else one.default for one in TICK.fields]
+
+INPUT = b"".join([
+    CYCLE.packed(1, 0, 0),
+    LOAD.packed(*LOAD.defaults),
+    CYCLE.packed(1, 0, 0),
+    CYCLE.packed(3, 0, 0),
+    TICK.packed(*QUIET),
+    TICK.packed(*OVER_VOLTAGE),
+])  # fmt: skip
+
+OUTPUT = """\
+3 IDLE........ 0 0000 +00000 00000000 +00000
+0 STOP........ 0 0000 +00000 00000000 +00000
+0 STOP........ 0 0000 +00000 00000000 -05462
+0 STOP........ 0 0000 +00000 00000001 +00000
+0 OFFSETCAL... 0 0000 +00000 00000001 +00000
+0 FAULT....... 0 0004 +00000 00000001 +00000
+"""
+
+# "Clockwise order is 1, 3, 2, 6, 4, 5, then 1." The example ends with pattern 3 kept, at position 1. Each step after it adds 1 to the
+# position, and its angle is the boundary crossed, "3/2, 2/6, 6/4, 4/5, 5/1" and "1/3: k = 2, 4, 6, 8, 10" and 0. FAULT and its flag stay.
+STEPS = 1400  # 8,400 bytes: the program's buffer has 8,192, so that a record is cut there
+TURN = [(2, 10922), (6, 21845), (4, -32768), (5, -21846), (1, -10923), (3, 0)]
+
+
+def turned(step: int, number: int = 0) -> str:
+    """The line of a step, from 0."""
+    return written(Report(number, "FAULT", gate=0, live=4, reference=0, position=step + 2, angle=TURN[step % 6][1]))
+
+
+TURNING = b"".join(CYCLE.packed(TURN[step % 6][0], 0, 0) for step in range(STEPS))
+TURNED = "".join(turned(step) for step in range(STEPS))
+
+# "a line with number 6 shows the unchanged state and ends the run": no record is called X, and behind it stand a step, and a tick that
+# would clear the fault. The line is the last one with number 6, and none follows it.
+UNKNOWN = b"X" + CYCLE.packed(2, 0, 0) + TICK.packed(*CLEARS)
+ENDING = turned(STEPS - 1, number=6)
+
+
+def files() -> Files:
+    return {"stdin": INPUT + TURNING + UNKNOWN, "stdout": (OUTPUT + TURNED + ENDING).encode("ascii")}

@@ -1,0 +1,36 @@
+"""The independent model in model/: where its programs are, how they are built and run."""
+
+import shutil
+import subprocess
+from pathlib import Path
+from typing import List
+
+from .places import ROOT
+
+MANIFEST = ROOT / "model" / "Cargo.toml"
+PROGRAMS = ROOT / "model" / "target" / "release"
+NO_CARGO = "cargo is missing: it builds the model."
+
+
+def can_be_built() -> bool:
+    return shutil.which("cargo") is not None
+
+
+def build() -> None:
+    """Builds the programs where they are not built yet. The same profile as the gate's tests of the model, so that it happens once."""
+    subprocess.run(["cargo", "build", "--quiet", "--release", "--offline", "--manifest-path", MANIFEST], check=True)
+
+
+def generated(seed: int, records: int) -> bytes:
+    """The stream of records that the model's generator makes of a seed."""
+    return subprocess.run([PROGRAMS / "generate", str(seed), str(records)], stdout=subprocess.PIPE, check=True).stdout
+
+
+def lines(stream: bytes) -> bytes:
+    """The report lines that the model gives for a stream of records."""
+    return subprocess.run([PROGRAMS / "shiftline_model"], input=stream, stdout=subprocess.PIPE, check=True).stdout
+
+
+def reached(streams: List[Path]) -> List[str]:
+    """What streams reach, as the model counts it: its lines."""
+    return subprocess.run([PROGRAMS / "reached", *streams], stdout=subprocess.PIPE, check=True, text=True).stdout.splitlines()

@@ -1,0 +1,65 @@
+"""Rewrites what the programs of the gate read and must print: stdin and stdout beside their sources.
+
+tools/stored            rewrites all of them
+tools/stored --check    rewrites nothing, names each file that is not as it would be written, and then exits with 1
+
+What a program must print is worked out from document 01 or by the independent model (rudavesh/expected), never by the program.
+Needs cargo, which builds the model."""
+
+import sys
+from pathlib import Path
+from typing import Callable, Dict, List, NamedTuple
+
+from . import model
+from .expected import Files, generated, hall_pairs, refusals, report_lines, shiftline_example, splits
+from .places import ROOT, program_folder
+
+
+class Stored(NamedTuple):
+    """Stored files of a program, and what they are made of."""
+
+    files: Callable[[], Files]
+    by_the_model: bool
+
+
+# By the words of programs.txt.
+STORED: Dict[str, Stored] = {
+    "shiftline": Stored(shiftline_example.files, by_the_model=False),
+    "splits": Stored(splits.files, by_the_model=True),
+    "refusals": Stored(refusals.files, by_the_model=False),
+    "hall_pairs": Stored(hall_pairs.files, by_the_model=False),
+    "report_lines": Stored(report_lines.files, by_the_model=False),
+    "generated": Stored(generated.files, by_the_model=True),
+}
+
+
+def wanted(word: str) -> Dict[Path, bytes]:
+    """The files of a program as they are to be. What the model gives, it gives when it is built."""
+    return {program_folder(word) / name: content for name, content in STORED[word].files().items()}
+
+
+def stale(word: str) -> List[Path]:
+    """The files of a program that are missing or not as they are to be."""
+    return [file for file, content in wanted(word).items() if not file.exists() or file.read_bytes() != content]
+
+
+def main() -> int:
+    given = sys.argv[1:]
+    if given not in ([], ["--check"]):
+        print(__doc__)
+        return 0 if given[0] in ("-h", "--help") else 2
+    if not model.can_be_built():
+        print(model.NO_CARGO, file=sys.stderr)
+        return 2
+    model.build()
+    found = [file for word in STORED for file in stale(word)]
+    if given:
+        for file in found:
+            print(f"{file.relative_to(ROOT)} is not as it would be written: tools/stored rewrites it.")
+        return 1 if found else 0
+    for word in STORED:
+        for file, content in wanted(word).items():
+            if file in found:
+                file.write_bytes(content)
+                print(f"{file.relative_to(ROOT)} is rewritten.")
+    return 0

@@ -1,0 +1,104 @@
+"""tools/strip: draws report lines as a strip chart."""
+
+import argparse
+import os
+import sys
+from typing import List
+from xml.sax.saxutils import escape
+
+from . import line_form
+from .strip_picture import EDGE, FAINT_INK, ORANGE, PAGE, RED, Picture, rectangle
+from .strip_runs import LEFT, RIGHT, Span, lay_out, read_runs, rows_of, spans_of
+
+DESCRIPTION = """Draw the report lines of `shiftline` as a strip chart, in SVG on standard output.
+
+  records shift.txt | shiftline | ./strip > shift.svg
+
+Records go from left to right. A long run of equal lines, such as the wait in FAULT, is
+drawn short on hatched ground; its label tells how many lines it has.
+Exit status: 0 drawn, 1 something is not a report line, 2 wrong use or unreadable file.
+"""
+
+# Each table gives label and colour of its rows, from the top row to the bottom row.
+# States stand so that a start climbs from STOP to MOTORRUN.
+STATES = {name: (name, colour) for name, colour in (
+    ("FAULT", RED), ("MOTORRUN", "#1b873f"), ("OPENLOOP", "#4c9f70"), ("PARKING", "#2b6cb0"),
+    ("ANGLESENSING", "#3d9be0"), ("CATCHSPIN", "#2aa5a0"), ("BTSCHARGE", "#d99000"),
+    ("OFFSETCAL", "#8b6fc9"), ("STOP", "#6b7785"), ("IDLE", "#aab3bd"))}  # fmt: skip
+GATES = {gate: (line_form.GATES[gate], colour) for gate, colour in ((3, "#7b1fa2"), (2, "#1b873f"), (1, "#d99000"), (0, "#8a94a0"))}
+REFUSALS = {
+    number: (f"{line_form.REFUSALS.get(number, 'refused')} \u00b7 {number:X}", ORANGE)
+    for number in range(1, line_form.MOST_NUMBER + 1)
+}
+
+
+def draw(runs: List[Span], title: str, width: int, longest: int) -> str:
+    runs = lay_out(runs, width - LEFT - RIGHT, longest)
+    picture = Picture(runs)
+    states = spans_of(runs, lambda report: report.state)
+    # The counter runs modulo 2^32: a step back from 0 is -1.
+    moved = [(run.value.position - runs[0].value.position + 2**31) % 2**32 - 2**31 for run in runs]
+    live = [row for bit in range(line_form.BITS_OF_THE_WORD) for row in rows_of(
+        spans_of(runs, lambda report: report.live >> bit & 1),
+        {1: (f"{line_form.BITS.get(bit, 'unnamed')} \u00b7 {bit}", RED)})]
+    refused = rows_of(spans_of(runs, lambda report: report.number), REFUSALS)
+    picture.rows("State", "state", 20, rows_of(states, STATES))
+    picture.rows("Gates", "gate", 18, rows_of(spans_of(runs, lambda report: report.gate), GATES))
+    picture.rows("Live word", "live", 16, live)
+    picture.curve("Speed reference", "reference", "#1d4ed8", [run.value.reference for run in runs])
+    picture.curve("Position (steps)", "position", "#0f766e", moved)
+    picture.rows("Refusals", "refusal", 16, refused)
+    background = picture.background(states, longest)
+    trips = sum(span.value == "FAULT" for span in states)
+    refusals = sum(run.count for run in runs if run.value.number)
+    picture.text(20, 34, title, size=20, more='font-weight="bold"')
+    summary = (f"records: {sum(run.count for run in runs):,} \u00b7 trips: {trips:,} \u00b7 "
+               f"refusals: {refusals:,}")
+    picture.text(20, 55, summary, size=13, colour=FAINT_INK)
+    legend = picture.bottom + 32
+    for left, fill, label in ((LEFT, "url(#hatch)", f"over {longest} equal lines, drawn short"),
+                              (LEFT + 300, "#f9dcdc", "in FAULT")):
+        picture.front.append(rectangle(left, legend, left + 26, legend + 14, fill, "legend", label,
+                                       f'stroke="{EDGE}"'))
+        picture.text(left + 34, legend + 11, label)
+    height = legend + 32
+    return "\n".join([
+        f'<svg xmlns="http://www.w3.org/2000/svg" viewBox="0 0 {width} {height:.0f}" '
+        f'width="{width}" height="{height:.0f}" role="img" '
+        'font-family="Verdana, DejaVu Sans, Segoe UI, Helvetica, Arial, sans-serif">',
+        f"<title>{escape(title)}</title>",
+        '<defs><pattern id="hatch" width="6" height="6" patternUnits="userSpaceOnUse" '
+        'patternTransform="rotate(45)"><rect width="6" height="6" fill="#f0f2f5"/>'
+        '<path d="M0 0V6" stroke="#cfd7de" stroke-width="1.4"/></pattern></defs>',
+        rectangle(0, 0, width, height, PAGE, "page", title),
+        *picture.panels, *background, *picture.front, "</svg>\n"])
+
+
+def main() -> int:
+    parser = argparse.ArgumentParser(prog="strip", description=DESCRIPTION,
+                                     formatter_class=argparse.RawDescriptionHelpFormatter)
+    parser.add_argument("file", nargs="?", default="-", metavar="FILE",
+                        help="report lines; '-' or none reads standard input")
+    parser.add_argument("--title", default="shiftline strip chart")
+    parser.add_argument("--width", type=int, default=1080, help="in pixels (1080)")
+    parser.add_argument("--longest", type=int, default=20, metavar="N",
+                        help="runs of more than N equal lines are drawn short (20)")
+    options = parser.parse_args()
+    if options.width < 400 or options.longest < 1:
+        parser.error("--width is at least 400, --longest at least 1")
+    name = "<stdin>" if options.file == "-" else options.file
+    try:
+        with sys.stdin.buffer if options.file == "-" else open(name, "rb") as lines:
+            runs = read_runs(lines)
+    except OSError as error:
+        parser.error(f"{name}: {error.strerror}")
+    except ValueError as error:
+        print(f"{name}:{error}", file=sys.stderr)
+        return 1
+    try:
+        sys.stdout.write(draw(runs, options.title, options.width, options.longest))
+        sys.stdout.flush()
+    except BrokenPipeError:
+        # Python flushes once more at exit and gets a place where that does no harm.
+        os.dup2(os.open(os.devnull, os.O_WRONLY), sys.stdout.fileno())
+    return 0
