@@ -1,67 +1,93 @@
 //! The causes that stand at a tick.
 
 use crate::drive::Drive;
+use crate::flag::Flag;
+use crate::settings::Setting;
 use crate::state::State;
 use crate::tick::TickFields;
 
+/// "a slot is bad if any tick has Flx_M below 512 or above 8192."
+pub const GOOD_FLUX: std::ops::RangeInclusive<i64> = 512..=8192;
+
+/// "the eighth consecutive bad slot"
+pub const BAD_SLOTS: i64 = 8;
+
+/// "otherwise it grows to at most 4096": the still count, when it is full.
+pub const FULL_STILL_COUNT: i64 = 4096;
+
+/// "the absolute speed lies in MinSpd..4095"
+pub const MOST_LOCKED_SPEED: i64 = 4095;
+
 impl Drive {
-    /// Counts this tick for flags 4, 7 and 14 and gives the causes that stand
-    /// at it, bit n of the number being the cause of flag n.
+    /// Counts this tick for flags 4, 7 and 14.  "Bits 4, 7 and 14 count only
+    /// ticks taken in MOTORRUN": a tick is taken in the state before it.
+    pub fn count_tick(&mut self, fields: &TickFields) {
+        if self.state == State::MotorRun {
+            self.count_flux(fields);
+            self.count_rotor_lock(fields);
+            self.count_hall_still();
+        }
+    }
+
+    /// The drive with this tick counted, and nothing else done.
+    pub fn counted(&self, fields: &TickFields) -> Drive {
+        let mut counted = self.clone();
+        counted.count_tick(fields);
+        counted
+    }
+
+    /// The causes that stand at a tick that was just counted, as a word.
     ///
     /// The drive is still in the state before the tick.
-    pub fn standing_causes(&mut self, fields: &TickFields) -> i64 {
+    pub fn standing_causes(&self, fields: &TickFields) -> i64 {
+        let standing = Flag::ALL
+            .into_iter()
+            .filter(|&flag| self.cause_stands(flag, fields));
+        standing.map(Flag::bit).sum()
+    }
+
+    fn cause_stands(&self, flag: Flag, fields: &TickFields) -> bool {
         let settings = &self.settings;
-        let mut causes = 0;
-        // "0: gate kill is 1."
-        if fields.gate_kill == 1 {
-            causes |= 1 << 0;
-        }
-        // "1: VdcRaw above CriticalOvLevel."
-        if fields.vdc_raw > settings.critical_ov_level {
-            causes |= 1 << 1;
-        }
-        // "2: VdcFilt above VdcOvLevel."
-        if fields.vdc_filt > settings.vdc_ov_level {
-            causes |= 1 << 2;
-        }
-        // "3: VdcFilt below VdcLvLevel."
-        if fields.vdc_filt < settings.vdc_lv_level {
-            causes |= 1 << 3;
-        }
-        // "6: temperature above Tshutdown."
-        if fields.temperature > settings.tshutdown {
-            causes |= 1 << 6;
-        }
-        // "15: dead streak is 2."
-        if self.dead_streak == 2 {
-            causes |= 1 << 15;
-        }
-        // "Bits 4, 7 and 14 count only ticks taken in MOTORRUN": a tick is
-        // taken in the state before it, and elsewhere none of them stands.
-        if self.state == State::MotorRun {
-            if self.count_flux(fields) {
-                causes |= 1 << 4;
+        let counting = self.state == State::MotorRun;
+        match flag {
+            // "0: gate kill is 1."
+            Flag::GateKill => fields.gate_kill == 1,
+            // "1: VdcRaw above CriticalOvLevel."
+            Flag::CriticalOverVoltage => fields.vdc_raw > settings[Setting::CriticalOvLevel],
+            // "2: VdcFilt above VdcOvLevel."
+            Flag::OverVoltage => fields.vdc_filt > settings[Setting::VdcOvLevel],
+            // "3: VdcFilt below VdcLvLevel."
+            Flag::UnderVoltage => fields.vdc_filt < settings[Setting::VdcLvLevel],
+            // "4: [...] It stands at the end of the eighth consecutive bad
+            // slot, and of each bad one following."  The tick that ended a
+            // slot has set its ticks to zero.
+            Flag::Flux => counting && self.flux_slot_ticks == 0 && self.flux_bad_slots >= BAD_SLOTS,
+            // "6: temperature above Tshutdown."
+            Flag::OverTemperature => fields.temperature > settings[Setting::Tshutdown],
+            // "7: [...] for 10 x RotorLockTime consecutive ticks, and while
+            // this goes on."
+            Flag::RotorLock => {
+                counting && self.rotor_lock_ticks >= 10 * settings[Setting::RotorLockTime]
             }
-            if self.count_rotor_lock(fields) {
-                causes |= 1 << 7;
+            // "14: [...] for 10 x HallTimeoutPeriod consecutive ticks, and
+            // while this goes on."
+            Flag::HallTimeOut => {
+                counting && self.hall_still_ticks >= 10 * settings[Setting::HallTimeoutPeriod]
             }
-            if self.count_hall_still() {
-                causes |= 1 << 14;
-            }
+            // "15: dead streak is 2."
+            Flag::HallPattern => self.dead_streak == 2,
         }
-        causes
     }
 
     /// "4: slots of floor(5 x FluxFaultTime / 4) ticks; a slot is bad if any
-    /// tick has Flx_M below 512 or above 8192. It stands at the end of the
-    /// eighth consecutive bad slot, and of each bad one following."
-    fn count_flux(&mut self, fields: &TickFields) -> bool {
-        if fields.flx_m < 512 || fields.flx_m > 8192 {
+    /// tick has Flx_M below 512 or above 8192."
+    fn count_flux(&mut self, fields: &TickFields) {
+        if !GOOD_FLUX.contains(&fields.flx_m) {
             self.flux_slot_bad = true;
         }
         self.flux_slot_ticks += 1;
         if self.flux_slot_ticks < self.settings.flux_slot_ticks() {
-            return false;
+            return;
         }
         // The slot's last tick: the next tick is the first of the next slot.
         if self.flux_slot_bad {
@@ -71,32 +97,27 @@ impl Drive {
         }
         self.flux_slot_ticks = 0;
         self.flux_slot_bad = false;
-        self.flux_bad_slots >= 8
     }
 
     /// "7: the absolute TrqRef is at least MotorLim and the absolute speed
-    /// lies in MinSpd..4095, for 10 x RotorLockTime consecutive ticks, and
-    /// while this goes on."
-    fn count_rotor_lock(&mut self, fields: &TickFields) -> bool {
+    /// lies in MinSpd..4095".
+    fn count_rotor_lock(&mut self, fields: &TickFields) {
         let settings = &self.settings;
-        let torque_high = fields.trq_ref.abs() >= settings.motor_lim;
-        let speed = fields.speed.abs();
-        if torque_high && settings.min_spd <= speed && speed <= 4095 {
+        let torque_high = fields.trq_ref.abs() >= settings[Setting::MotorLim];
+        let locked_speeds = settings[Setting::MinSpd]..=MOST_LOCKED_SPEED;
+        if torque_high && locked_speeds.contains(&fields.speed.abs()) {
             self.rotor_lock_ticks += 1;
         } else {
             self.rotor_lock_ticks = 0;
         }
-        self.rotor_lock_ticks >= 10 * self.settings.rotor_lock_time
     }
 
-    /// "14: the still count is 4096 for 10 x HallTimeoutPeriod consecutive
-    /// ticks, and while this goes on."  The count is looked at once per tick.
-    fn count_hall_still(&mut self) -> bool {
-        if self.still_count == 4096 {
+    /// "14: the still count is 4096".  The count is looked at once per tick.
+    fn count_hall_still(&mut self) {
+        if self.still_count == FULL_STILL_COUNT {
             self.hall_still_ticks += 1;
         } else {
             self.hall_still_ticks = 0;
         }
-        self.hall_still_ticks >= 10 * self.settings.hall_timeout_period
     }
 }

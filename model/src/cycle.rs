@@ -1,29 +1,41 @@
 //! The cycle call: one per PWM cycle.
 
-use crate::drive::{Drive, Reply};
+use crate::causes::FULL_STILL_COUNT;
+use crate::drive::{Drive, Pair, Reply};
+use crate::fields::{bad_places, FieldRule, Form, MOST_LEVEL};
+use crate::flag::Flag;
 use crate::hall::{boundary_angle, group, middle_angle, with_offset, Group};
+use crate::settings::Setting;
 use crate::state::State;
 
 /// "Fields: Hall pattern 0..7, two current samples 0..4095."
-#[derive(Clone, Copy, Debug, PartialEq, Eq)]
+#[derive(Clone, Copy, Debug, PartialEq, Eq, Default)]
 pub struct CycleFields {
     pub pattern: i64,
-    pub samples: [i64; 2],
+    pub samples: Pair<i64>,
 }
 
+/// In the order of the record.
+pub const CYCLE_RULES: [FieldRule; 3] = [
+    FieldRule::new("pattern", Form::Byte, 0, 7),
+    FieldRule::new("first sample", Form::Number, 0, MOST_LEVEL),
+    FieldRule::new("second sample", Form::Number, 0, MOST_LEVEL),
+];
+
 impl CycleFields {
-    /// "cycle or tick field out of range": "first bad field, from 1".
-    pub fn first_bad_field(&self) -> Option<u8> {
-        if !(0..=7).contains(&self.pattern) {
-            return Some(1);
-        }
-        if !(0..=4095).contains(&self.samples[0]) {
-            return Some(2);
-        }
-        if !(0..=4095).contains(&self.samples[1]) {
-            return Some(3);
-        }
-        None
+    /// The fields in order.
+    pub fn each(&self) -> [i64; 3] {
+        [self.pattern, self.samples.first, self.samples.second]
+    }
+
+    pub fn each_mut(&mut self) -> [&mut i64; 3] {
+        let samples = &mut self.samples;
+        [&mut self.pattern, &mut samples.first, &mut samples.second]
+    }
+
+    /// "cycle or tick field out of range": the places of all bad fields.
+    pub fn bad_fields(&self) -> Vec<u8> {
+        bad_places(&CYCLE_RULES, &self.each())
     }
 }
 
@@ -33,7 +45,8 @@ impl Drive {
         if self.state == State::Idle {
             return self.refuse(3, 0);
         }
-        if let Some(place) = fields.first_bad_field() {
+        // "first bad field, from 1"
+        if let Some(&place) = fields.bad_fields().first() {
             return self.refuse(1, place);
         }
         let mut next = self.clone();
@@ -43,7 +56,7 @@ impl Drive {
     }
 
     fn take_pattern(&mut self, pattern: i64) {
-        let offset = self.settings.hall_angle_offset;
+        let offset = self.settings[Setting::HallAngleOffset];
         let group = group(pattern, self.kept_pattern);
         match group {
             Group::Dead => {
@@ -53,7 +66,7 @@ impl Drive {
                 self.dead_streak = (self.dead_streak + 1).min(2);
                 self.stray_streak = 0;
                 if self.dead_streak == 2 {
-                    self.flags |= 1 << 15;
+                    self.flags |= Flag::HallPattern.bit();
                     self.kept_pattern = None;
                 }
             }
@@ -90,7 +103,7 @@ impl Drive {
                 self.stray_streak += 1;
                 self.dead_streak = 0;
                 if self.stray_streak == 3 {
-                    self.flags |= 1 << 15;
+                    self.flags |= Flag::HallPattern.bit();
                     self.kept_pattern = None;
                     self.stray_streak = 0;
                 }
@@ -101,17 +114,17 @@ impl Drive {
         match group {
             Group::First | Group::Next | Group::Previous => self.still_count = 0,
             Group::Dead | Group::Same | Group::Stray => {
-                self.still_count = (self.still_count + 1).min(4096);
+                self.still_count = (self.still_count + 1).min(FULL_STILL_COUNT);
             }
         }
     }
 
-    fn count_cycle(&mut self, samples: [i64; 2]) {
+    fn count_cycle(&mut self, samples: Pair<i64>) {
         // "In OFFSETCAL the first N = 2^(13 - OffsetPsc) add their samples to
         // two sums."
         if self.state == State::OffsetCal && self.cycles_in_state < self.settings.offset_cycles() {
-            self.offset_sums[0] += samples[0];
-            self.offset_sums[1] += samples[1];
+            self.offset_sums.first += samples.first;
+            self.offset_sums.second += samples.second;
         }
         // "Cycles in the present state are counted to at most 65535."
         self.cycles_in_state = (self.cycles_in_state + 1).min(65535);

@@ -1,5 +1,6 @@
 //! The drive state, the load call, the answer and the gates.
 
+use crate::flag::Flag;
 use crate::settings::Settings;
 use crate::state::State;
 
@@ -27,8 +28,8 @@ pub struct Drive {
     pub cycles_in_state: i64,
     pub ticks_in_state: i64,
 
-    pub offset_sums: [i64; 2],
-    pub offsets: [i64; 2],
+    pub offset_sums: Pair<i64>,
+    pub offsets: Pair<i64>,
     pub offsets_measured: bool,
 
     /// "Speed reference, kept times 2048."
@@ -42,6 +43,23 @@ pub struct Drive {
     /// Flags 7 and 14: consecutive ticks so far.
     pub rotor_lock_ticks: i64,
     pub hall_still_ticks: i64,
+}
+
+/// What there is of both current samples.
+#[derive(Clone, Copy, Debug, PartialEq, Eq, Default)]
+pub struct Pair<T> {
+    pub first: T,
+    pub second: T,
+}
+
+/// The gates, by their numbers.
+#[derive(Clone, Copy, Debug, PartialEq, Eq)]
+pub enum Gate {
+    Off = 0,
+    Charge = 1,
+    Drive = 2,
+    /// "all low sides on"
+    Brake = 3,
 }
 
 /// "its answer: number, place, state, gate, live word, speed reference,
@@ -58,7 +76,7 @@ pub struct Answer {
     pub speed_reference: i16,
     pub position: u32,
     pub angle: i16,
-    pub offsets: [u16; 2],
+    pub offsets: Pair<u16>,
     pub retries_used: u16,
 }
 
@@ -86,8 +104,8 @@ impl Drive {
             still_count: 0,
             cycles_in_state: 0,
             ticks_in_state: 0,
-            offset_sums: [0, 0],
-            offsets: [0, 0],
+            offset_sums: Pair::default(),
+            offsets: Pair::default(),
             offsets_measured: false,
             speed_reference_times_2048: 0,
             flux_slot_ticks: 0,
@@ -125,7 +143,7 @@ impl Drive {
         self.cycles_in_state = 0;
         self.ticks_in_state = 0;
         if state == State::OffsetCal {
-            self.offset_sums = [0, 0];
+            self.offset_sums = Pair::default();
         }
         if state == State::MotorRun {
             // "Bits 4, 7 and 14 count only ticks taken in MOTORRUN, from zero
@@ -146,21 +164,25 @@ impl Drive {
     /// "Gates after any call: live bit 0, off (0); else live bit 1, all low
     /// sides on (3); else any live flag, off; else 3 gives charge (1);
     /// 4, 6, 7, 8, 9 give drive (2); others off."
-    pub fn gate(&self) -> u8 {
+    pub fn gate(&self) -> Gate {
         let live = self.live_word();
-        if live & 1 != 0 {
-            return 0;
+        if Flag::GateKill.is_in(live) {
+            return Gate::Off;
         }
-        if live & 2 != 0 {
-            return 3;
+        if Flag::CriticalOverVoltage.is_in(live) {
+            return Gate::Brake;
         }
         if live != 0 {
-            return 0;
+            return Gate::Off;
         }
-        match self.state.number() {
-            3 => 1,
-            4 | 6 | 7 | 8 | 9 => 2,
-            _ => 0,
+        match self.state {
+            State::BtsCharge => Gate::Charge,
+            State::MotorRun
+            | State::CatchSpin
+            | State::Parking
+            | State::OpenLoop
+            | State::AngleSensing => Gate::Drive,
+            State::Idle | State::Stop | State::OffsetCal | State::Fault => Gate::Off,
         }
     }
 
@@ -176,12 +198,15 @@ impl Drive {
             number,
             place,
             state: self.state.number(),
-            gate: self.gate(),
+            gate: self.gate() as u8,
             live_word: self.live_word() as u16,
             speed_reference: self.speed_reference() as i16,
             position: self.position as u32,
             angle: self.angle as i16,
-            offsets: [self.offsets[0] as u16, self.offsets[1] as u16],
+            offsets: Pair {
+                first: self.offsets.first as u16,
+                second: self.offsets.second as u16,
+            },
             retries_used: self.retries_used as u16,
         }
     }

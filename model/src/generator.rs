@@ -19,14 +19,12 @@ mod steering;
 mod stillness;
 
 use crate::drive::Drive;
+use crate::flag::Flag;
 use crate::random::Random;
 use crate::record::Record;
 use crate::state::State;
 use ending::Ending;
 use mood::Mood;
-
-/// FAULT's wait in ticks; "from its 10,000th tick on".
-const FAULT_WAIT: i64 = 10_000;
 
 pub struct Generator {
     random: Random,
@@ -63,6 +61,11 @@ pub fn stream(seed: u64, records: u64) -> Vec<u8> {
 /// short record where number 3 would hold as well.
 pub fn stays_in_idle(seed: u64) -> bool {
     seed % 40 == 39
+}
+
+/// A FaultEnable that masks one flag.
+fn all_but(flag: Flag) -> u16 {
+    65535 & !flag.bit() as u16
 }
 
 impl Generator {

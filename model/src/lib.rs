@@ -3,12 +3,15 @@
 //! It was written from document 01 (with the readings of `readings.md`) and
 //! from nothing else, so that it can be compared, record for record, with a
 //! program made by others.  It aims at being easy to check against the paper:
-//! wide integers, no sharing of work between rules, one function per rule.
+//! wide integers, no sharing of work between rules, each rule once and beside
+//! its sentence.
 //!
 //! The parts of the supervisor:
 //! * `settings`  the 24 settings and their rules,
+//! * `flag`      the flags that have a meaning,
 //! * `state`     the ten states,
 //! * `drive`     the drive state, load, the answer, the gates,
+//! * `fields`    fields of a cycle and a tick: ranges and bytes,
 //! * `cycle`     the cycle call,
 //! * `hall`      Hall groups and angles,
 //! * `tick`      the tick call: command, move, speed reference,
@@ -23,6 +26,8 @@
 pub mod causes;
 pub mod cycle;
 pub mod drive;
+pub mod fields;
+pub mod flag;
 pub mod generator;
 pub mod hall;
 pub mod line;
@@ -35,9 +40,10 @@ pub mod state;
 pub mod tick;
 
 pub use cycle::CycleFields;
-pub use drive::{Answer, Drive, Reply};
+pub use drive::{Answer, Drive, Gate, Pair, Reply};
+pub use flag::Flag;
 pub use line::report_line;
 pub use record::Record;
-pub use settings::Settings;
+pub use settings::{Setting, Settings};
 pub use state::State;
 pub use tick::TickFields;

@@ -5,6 +5,30 @@
 //! stream longer than 20,000 records: two waits in FAULT with what lies
 //! between take 20,003 of them, and counters are full after 65,535.
 
+/// Names that are counted, as an enum: code, list and output take the text of
+/// a name from the one line that has it.
+macro_rules! counted_names {
+    ($(#[$about:meta])* $kind:ident { $($name:ident => $text:literal,)+ }) => {
+        $(#[$about])*
+        #[derive(Clone, Copy)]
+        enum $kind {
+            $($name,)+
+        }
+
+        impl $kind {
+            const ALL: &'static [$kind] = &[$($kind::$name,)+];
+        }
+
+        impl AsRef<str> for $kind {
+            fn as_ref(&self) -> &str {
+                match self {
+                    $($kind::$name => $text,)+
+                }
+            }
+        }
+    };
+}
+
 mod commands;
 mod faults;
 mod flags;
@@ -99,7 +123,7 @@ impl Reached {
 
     fn short_record(&mut self, letter: u8, state: State) {
         let letter = letter as char;
-        self.count(&format!("refused 6 at 0: short {letter}"));
+        self.count(format!("refused 6 at 0: short {letter}"));
         let loadable = matches!(state, State::Idle | State::Stop);
         if letter == 'L' && !loadable {
             self.count("refused 6 at 0: short L where 4 would hold");
@@ -134,7 +158,8 @@ impl Reached {
         }
     }
 
-    fn count(&mut self, name: &str) {
+    fn count(&mut self, name: impl AsRef<str>) {
+        let name = name.as_ref();
         match self.counts.get_mut(name) {
             Some(count) => *count += 1,
             None => {
@@ -144,7 +169,7 @@ impl Reached {
     }
 
     /// Counts where the condition holds.
-    fn count_if(&mut self, condition: bool, name: &str) {
+    fn count_if(&mut self, condition: bool, name: impl AsRef<str>) {
         if condition {
             self.count(name);
         }
@@ -197,7 +222,7 @@ fn joined(names: Vec<String>) -> String {
 /// Everything that streams can reach.
 pub fn list() -> Vec<String> {
     let mut list = Vec::new();
-    for name in [
+    let of_streams = [
         "streams",
         "records",
         "end between records",
@@ -207,9 +232,8 @@ pub fn list() -> Vec<String> {
         "refused 6 at 0: short T",
         "refused 6 at 0: short L where 4 would hold",
         "refused 6 at 0: short C or T where 3 would hold",
-    ] {
-        list.push(name.to_string());
-    }
+    ];
+    add_all(&mut list, &of_streams);
     moves::add_to_list(&mut list);
     flags::add_to_list(&mut list);
     loads::add_to_list(&mut list);
@@ -219,6 +243,10 @@ pub fn list() -> Vec<String> {
     faults::add_to_list(&mut list);
     commands::add_to_list(&mut list);
     list
+}
+
+fn add_all<Name: AsRef<str>>(list: &mut Vec<String>, names: &[Name]) {
+    list.extend(names.iter().map(|name| name.as_ref().to_string()));
 }
 
 /// The nine states in which cycles and ticks are accepted.

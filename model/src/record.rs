@@ -1,13 +1,15 @@
 //! Records of the program: reading and writing them.
 
-use crate::cycle::CycleFields;
+use crate::cycle::{CycleFields, CYCLE_RULES};
 use crate::drive::{Drive, Reply};
-use crate::tick::TickFields;
+use crate::fields::{FieldRule, Form};
+use crate::settings::SETTINGS;
+use crate::tick::{TickFields, TICK_RULES};
 
 #[derive(Clone, Debug, PartialEq, Eq)]
 pub enum Record {
     /// "L and 24 numbers"
-    Load([u16; 24]),
+    Load([u16; SETTINGS]),
     /// "C, pattern byte and two numbers"
     Cycle(CycleFields),
     /// "T, three bytes and eight numbers, in field order"
@@ -29,11 +31,15 @@ pub enum Head {
 /// Bytes of a whole record, its letter included.
 pub fn record_length(letter: u8) -> Option<usize> {
     match letter {
-        b'L' => Some(1 + 24 * 2),
-        b'C' => Some(1 + 1 + 2 * 2),
-        b'T' => Some(1 + 3 + 8 * 2),
+        b'L' => Some(1 + SETTINGS * Form::Number.bytes()),
+        b'C' => Some(1 + bytes_of(&CYCLE_RULES)),
+        b'T' => Some(1 + bytes_of(&TICK_RULES)),
         _ => None,
     }
+}
+
+fn bytes_of(rules: &[FieldRule]) -> usize {
+    rules.iter().map(|rule| rule.form.bytes()).sum()
 }
 
 /// Reads the record at the head of the input.
@@ -47,47 +53,39 @@ pub fn read_head(input: &[u8]) -> Head {
     if input.len() < length {
         return Head::Short(letter);
     }
-    let fields = &input[1..length];
+    let bytes = &input[1..length];
     match letter {
         b'L' => {
-            let mut numbers = [0; 24];
-            for (index, number) in numbers.iter_mut().enumerate() {
-                *number = unsigned(fields, 2 * index) as u16;
+            let mut numbers = [0; SETTINGS];
+            for (number, two) in numbers.iter_mut().zip(bytes.chunks(Form::Number.bytes())) {
+                *number = Form::Number.read(two) as u16;
             }
             Head::Whole(Record::Load(numbers))
         }
-        b'C' => Head::Whole(Record::Cycle(CycleFields {
-            pattern: fields[0] as i64,
-            samples: [unsigned(fields, 1), unsigned(fields, 3)],
-        })),
-        _ => Head::Whole(Record::Tick(TickFields {
-            gate_kill: fields[0] as i64,
-            clear: fields[1] as i64,
-            command: fields[2] as i64,
-            control: unsigned(fields, 3),
-            vdc_raw: unsigned(fields, 5),
-            vdc_filt: unsigned(fields, 7),
-            temperature: unsigned(fields, 9),
-            flx_m: unsigned(fields, 11),
-            trq_ref: signed(fields, 13),
-            speed: signed(fields, 15),
-            target: signed(fields, 17),
-        })),
+        b'C' => {
+            let mut fields = CycleFields::default();
+            read_fields(&CYCLE_RULES, bytes, fields.each_mut());
+            Head::Whole(Record::Cycle(fields))
+        }
+        _ => {
+            let mut fields = TickFields::default();
+            read_fields(&TICK_RULES, bytes, fields.each_mut());
+            Head::Whole(Record::Tick(fields))
+        }
     }
 }
 
-/// "Numbers are two bytes, high first".
-fn unsigned(bytes: &[u8], at: usize) -> i64 {
-    bytes[at] as i64 * 256 + bytes[at + 1] as i64
+fn read_fields<const N: usize>(rules: &[FieldRule; N], bytes: &[u8], fields: [&mut i64; N]) {
+    let mut rest = bytes;
+    for (rule, field) in rules.iter().zip(fields) {
+        *field = rule.form.read(rest);
+        rest = &rest[rule.form.bytes()..];
+    }
 }
 
-/// "signed ones in two's complement".
-fn signed(bytes: &[u8], at: usize) -> i64 {
-    let number = unsigned(bytes, at);
-    if number >= 32768 {
-        number - 65536
-    } else {
-        number
+fn write_fields<const N: usize>(rules: &[FieldRule; N], values: [i64; N], bytes: &mut Vec<u8>) {
+    for (rule, value) in rules.iter().zip(values) {
+        rule.form.write(value, bytes);
     }
 }
 
@@ -100,36 +98,29 @@ impl Record {
         }
     }
 
-    /// The bytes of the record.  Fields that two bytes (or one) cannot hold
-    /// cannot be written; the generator never asks for it.
+    /// The bytes of the record.
     pub fn bytes(&self) -> Vec<u8> {
         let mut bytes = vec![self.letter()];
         match self {
             Record::Load(numbers) => {
                 for number in numbers {
-                    push_number(&mut bytes, *number as i64);
+                    Form::Number.write(*number as i64, &mut bytes);
                 }
             }
-            Record::Cycle(fields) => {
-                push_byte(&mut bytes, fields.pattern);
-                push_number(&mut bytes, fields.samples[0]);
-                push_number(&mut bytes, fields.samples[1]);
-            }
-            Record::Tick(fields) => {
-                push_byte(&mut bytes, fields.gate_kill);
-                push_byte(&mut bytes, fields.clear);
-                push_byte(&mut bytes, fields.command);
-                push_number(&mut bytes, fields.control);
-                push_number(&mut bytes, fields.vdc_raw);
-                push_number(&mut bytes, fields.vdc_filt);
-                push_number(&mut bytes, fields.temperature);
-                push_number(&mut bytes, fields.flx_m);
-                push_number(&mut bytes, fields.trq_ref);
-                push_number(&mut bytes, fields.speed);
-                push_number(&mut bytes, fields.target);
-            }
+            Record::Cycle(fields) => write_fields(&CYCLE_RULES, fields.each(), &mut bytes),
+            Record::Tick(fields) => write_fields(&TICK_RULES, fields.each(), &mut bytes),
         }
         bytes
+    }
+
+    /// The places of its fields that are out of range, from 1; a load has
+    /// settings, and no fields.
+    pub fn bad_fields(&self) -> Vec<u8> {
+        match self {
+            Record::Load(_) => Vec::new(),
+            Record::Cycle(fields) => fields.bad_fields(),
+            Record::Tick(fields) => fields.bad_fields(),
+        }
     }
 
     /// Makes the call of the record.
@@ -140,19 +131,4 @@ impl Record {
             Record::Tick(fields) => drive.tick(fields),
         }
     }
-}
-
-fn push_byte(bytes: &mut Vec<u8>, value: i64) {
-    assert!((0..=255).contains(&value), "{value} is no byte");
-    bytes.push(value as u8);
-}
-
-fn push_number(bytes: &mut Vec<u8>, value: i64) {
-    assert!(
-        (-32768..=65535).contains(&value),
-        "{value} has no two bytes"
-    );
-    let number = value.rem_euclid(65536);
-    bytes.push((number / 256) as u8);
-    bytes.push((number % 256) as u8);
 }

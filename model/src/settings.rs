@@ -1,60 +1,236 @@
 //! The 24 settings and the rules they must keep.
+//!
+//! `RULES` is the one place where the model states a rule of a setting: what
+//! a load refuses, what the generator chooses and what `reached` counts all
+//! take their limits from it.
 
-/// "The drive state keeps its 24 settings as loaded": one wide integer each.
-#[derive(Clone, Debug, PartialEq, Eq, Default)]
-pub struct Settings {
-    pub control_mode: i64,
-    pub fault_enable: i64,
-    pub vdc_ov_level: i64,
-    pub vdc_lv_level: i64,
-    pub critical_ov_level: i64,
-    pub tshutdown: i64,
-    pub rotor_lock_time: i64,
-    pub flux_fault_time: i64,
-    pub hall_timeout_period: i64,
-    pub hall_angle_offset: i64,
-    pub min_spd: i64,
-    pub spd_ramp_rate: i64,
-    pub motor_lim: i64,
-    pub offset_psc: i64,
-    pub bts_charge_time: i64,
-    pub t_catch_spin: i64,
-    pub direct_start_thr: i64,
-    pub is_pulses: i64,
-    pub park_time: i64,
-    pub open_loop_ramp: i64,
-    pub cmd_start: i64,
-    pub cmd_stop: i64,
-    pub cmd_gain: i64,
-    pub retry_limit: i64,
+use crate::flag::Flag;
+use std::ops::{Index, IndexMut};
+use std::sync::OnceLock;
+use Setting::*;
+
+/// The settings under the names of the paper; the number is the place.
+#[derive(Clone, Copy, Debug, PartialEq, Eq)]
+pub enum Setting {
+    ControlMode = 1,
+    FaultEnable,
+    VdcOvLevel,
+    VdcLvLevel,
+    CriticalOvLevel,
+    Tshutdown,
+    RotorLockTime,
+    FluxFaultTime,
+    HallTimeoutPeriod,
+    HallAngleOffset,
+    MinSpd,
+    SpdRampRate,
+    MotorLim,
+    OffsetPsc,
+    BtsChargeTime,
+    TCatchSpin,
+    DirectStartThr,
+    IsPulses,
+    ParkTime,
+    OpenLoopRamp,
+    CmdStart,
+    CmdStop,
+    CmdGain,
+    RetryLimit,
 }
 
-pub const SETTING_NAMES: [&str; 24] = [
-    "ControlMode",
-    "FaultEnable",
-    "VdcOvLevel",
-    "VdcLvLevel",
-    "CriticalOvLevel",
-    "Tshutdown",
-    "RotorLockTime",
-    "FluxFaultTime",
-    "HallTimeoutPeriod",
-    "HallAngleOffset",
-    "MinSpd",
-    "SpdRampRate",
-    "MotorLim",
-    "OffsetPsc",
-    "BtsChargeTime",
-    "TCatchSpin",
-    "DirectStartThr",
-    "IS_Pulses",
-    "ParkTime",
-    "OpenLoopRamp",
-    "CmdStart",
-    "CmdStop",
-    "CmdGain",
-    "RetryLimit",
+pub const SETTINGS: usize = 24;
+
+/// "Settings, in order".
+///
+/// A relation belongs to the setting that states it: 4 is "below setting 3",
+/// 5 is "not below setting 3", 22 is "below setting 21".
+pub static RULES: [Rule; SETTINGS] = [
+    within(ControlMode, "ControlMode", 0, 1),
+    any(FaultEnable, "FaultEnable"),
+    within(VdcOvLevel, "VdcOvLevel", 0, 4095),
+    within(VdcLvLevel, "VdcLvLevel", 0, 4095).below(VdcOvLevel, 1),
+    within(CriticalOvLevel, "CriticalOvLevel", 0, 4095).not_below(VdcOvLevel),
+    within(Tshutdown, "Tshutdown", 0, 4095),
+    // "7 RotorLockTime, 8 FluxFaultTime, 9 HallTimeoutPeriod 1..65535": one
+    // range for the three names before it.
+    within(RotorLockTime, "RotorLockTime", 1, 65535),
+    within(FluxFaultTime, "FluxFaultTime", 1, 65535),
+    within(HallTimeoutPeriod, "HallTimeoutPeriod", 1, 65535),
+    any(HallAngleOffset, "HallAngleOffset"),
+    within(MinSpd, "MinSpd", 0, 16383),
+    within(SpdRampRate, "SpdRampRate", 0, 32767),
+    within(MotorLim, "MotorLim", 1, 4095),
+    within(OffsetPsc, "OffsetPsc", 0, 7),
+    any(BtsChargeTime, "BtsChargeTime"),
+    any(TCatchSpin, "TCatchSpin"),
+    within(DirectStartThr, "DirectStartThr", 0, 16383),
+    within(IsPulses, "IS_Pulses", 0, 255),
+    any(ParkTime, "ParkTime"),
+    any(OpenLoopRamp, "OpenLoopRamp"),
+    within(CmdStart, "CmdStart", 0, 4095),
+    within(CmdStop, "CmdStop", 0, 4095).below(CmdStart, 1),
+    any(CmdGain, "CmdGain"),
+    within(RetryLimit, "RetryLimit", 0, 100),
 ];
+
+/// The rule of one setting.
+#[derive(Clone, Copy, Debug)]
+pub struct Rule {
+    pub setting: Setting,
+    pub name: &'static str,
+    pub least: i64,
+    pub most: i64,
+    pub relation: Option<Relation>,
+}
+
+/// How a setting has to lie to another one.
+#[derive(Clone, Copy, Debug, PartialEq, Eq)]
+pub enum Relation {
+    /// "below": less by so much at least.
+    Below { other: Setting, by: i64 },
+    /// "not below"
+    NotBelow { other: Setting },
+}
+
+const fn within(setting: Setting, name: &'static str, least: i64, most: i64) -> Rule {
+    Rule {
+        setting,
+        name,
+        least,
+        most,
+        relation: None,
+    }
+}
+
+/// "any": whatever two bytes hold.
+const fn any(setting: Setting, name: &'static str) -> Rule {
+    within(setting, name, 0, 65535)
+}
+
+impl Rule {
+    const fn below(mut self, other: Setting, by: i64) -> Rule {
+        self.relation = Some(Relation::Below { other, by });
+        self
+    }
+
+    const fn not_below(mut self, other: Setting) -> Rule {
+        self.relation = Some(Relation::NotBelow { other });
+        self
+    }
+
+    fn keeps(&self, numbers: &PerSetting<u16>) -> bool {
+        let value = numbers[self.setting] as i64;
+        self.least <= value
+            && value <= self.most
+            && self
+                .relation
+                .is_none_or(|relation| relation.holds(value, numbers))
+    }
+
+    /// Whether any number breaks it.
+    pub fn can_be_broken(&self) -> bool {
+        self.least > 0 || self.most < 65535 || self.relation.is_some()
+    }
+}
+
+impl Relation {
+    pub fn other(self) -> Setting {
+        match self {
+            Relation::Below { other, .. } | Relation::NotBelow { other } => other,
+        }
+    }
+
+    /// The last value that keeps it, where the other setting has this one.
+    pub fn edge(self, other: i64) -> i64 {
+        match self {
+            Relation::Below { by, .. } => other - by,
+            Relation::NotBelow { .. } => other,
+        }
+    }
+
+    fn holds(self, value: i64, numbers: &PerSetting<u16>) -> bool {
+        let edge = self.edge(numbers[self.other()] as i64);
+        match self {
+            Relation::Below { .. } => value <= edge,
+            Relation::NotBelow { .. } => value >= edge,
+        }
+    }
+}
+
+impl Setting {
+    /// Its place, from 1.
+    pub fn place(self) -> usize {
+        self as usize
+    }
+
+    pub fn rule(self) -> Rule {
+        RULES[self.place() - 1]
+    }
+
+    pub fn name(self) -> &'static str {
+        self.rule().name
+    }
+
+    /// Least and most that an accepted load can hold.
+    pub fn accepted_ends(self) -> (i64, i64) {
+        accepted_ends()[self]
+    }
+}
+
+/// Least and most of each setting that an accepted load can hold; worked out
+/// once, since every load of a stream asks for it.
+pub fn accepted_ends() -> &'static PerSetting<(i64, i64)> {
+    static ENDS: OnceLock<PerSetting<(i64, i64)>> = OnceLock::new();
+    ENDS.get_or_init(narrowed_ends)
+}
+
+/// A relation narrows the ranges of both its settings: each has to leave room
+/// for the other.
+fn narrowed_ends() -> PerSetting<(i64, i64)> {
+    let mut ends = PerSetting(RULES.map(|rule| (rule.least, rule.most)));
+    // One relation may narrow what another one looks at.
+    for _ in 0..SETTINGS {
+        for rule in &RULES {
+            let Some(relation) = rule.relation else {
+                continue;
+            };
+            let (own, other) = (ends[rule.setting], ends[relation.other()]);
+            let (own, other) = match relation {
+                Relation::Below { by, .. } => (
+                    (own.0, own.1.min(other.1 - by)),
+                    (other.0.max(own.0 + by), other.1),
+                ),
+                Relation::NotBelow { .. } => {
+                    ((own.0.max(other.0), own.1), (other.0, other.1.min(own.1)))
+                }
+            };
+            ends[rule.setting] = own;
+            ends[relation.other()] = other;
+        }
+    }
+    ends
+}
+
+/// Something for each setting, in order.
+#[derive(Clone, Copy, Debug, PartialEq, Eq, Default)]
+pub struct PerSetting<T>(pub [T; SETTINGS]);
+
+impl<T> Index<Setting> for PerSetting<T> {
+    type Output = T;
+
+    fn index(&self, setting: Setting) -> &T {
+        &self.0[setting.place() - 1]
+    }
+}
+
+impl<T> IndexMut<Setting> for PerSetting<T> {
+    fn index_mut(&mut self, setting: Setting) -> &mut T {
+        &mut self.0[setting.place() - 1]
+    }
+}
+
+/// "The drive state keeps its 24 settings as loaded": one wide integer each.
+pub type Settings = PerSetting<i64>;
 
 impl Settings {
     /// Reads 24 numbers, or gives the place of the refusal with number 2.
@@ -62,49 +238,23 @@ impl Settings {
     /// "settings not 24 numbers", place 0, is the upper of the two rows with
     /// number 2, so it is looked at first.
     pub fn read(numbers: &[u16]) -> Result<Settings, u8> {
-        if numbers.len() != 24 {
+        let Ok(numbers) = numbers.try_into().map(PerSetting) else {
             return Err(0);
+        };
+        if let Some(broken) = RULES.iter().find(|rule| !rule.keeps(&numbers)) {
+            return Err(broken.setting.place() as u8);
         }
-        let setting = |place: usize| numbers[place - 1] as i64;
-        for place in 1..=24 {
-            if !keeps_its_rule(place, &setting) {
-                return Err(place as u8);
-            }
-        }
-        Ok(Settings {
-            control_mode: setting(1),
-            fault_enable: setting(2),
-            vdc_ov_level: setting(3),
-            vdc_lv_level: setting(4),
-            critical_ov_level: setting(5),
-            tshutdown: setting(6),
-            rotor_lock_time: setting(7),
-            flux_fault_time: setting(8),
-            hall_timeout_period: setting(9),
-            // "HallAngleOffset any (signed)": two's complement.
-            hall_angle_offset: numbers[9] as i16 as i64,
-            min_spd: setting(11),
-            spd_ramp_rate: setting(12),
-            motor_lim: setting(13),
-            offset_psc: setting(14),
-            bts_charge_time: setting(15),
-            t_catch_spin: setting(16),
-            direct_start_thr: setting(17),
-            is_pulses: setting(18),
-            park_time: setting(19),
-            open_loop_ramp: setting(20),
-            cmd_start: setting(21),
-            cmd_stop: setting(22),
-            // "CmdGain any": not marked signed, so unsigned.
-            cmd_gain: setting(23),
-            retry_limit: setting(24),
-        })
+        let mut settings = PerSetting(numbers.0.map(|number| number as i64));
+        // "HallAngleOffset any (signed)": two's complement.  "CmdGain any" is
+        // not marked signed, so it is unsigned.
+        settings[HallAngleOffset] = numbers[HallAngleOffset] as i16 as i64;
+        Ok(settings)
     }
 
     /// "In OFFSETCAL the first N = 2^(13 - OffsetPsc)".
     pub fn offset_cycles(&self) -> i64 {
         let mut cycles = 1;
-        for _ in 0..(13 - self.offset_psc) {
+        for _ in 0..(13 - self[OffsetPsc]) {
             cycles *= 2;
         }
         cycles
@@ -112,41 +262,11 @@ impl Settings {
 
     /// "slots of floor(5 x FluxFaultTime / 4) ticks".
     pub fn flux_slot_ticks(&self) -> i64 {
-        5 * self.flux_fault_time / 4
+        5 * self[FluxFaultTime] / 4
     }
 
     /// "A flag is live if its FaultEnable bit is 1; 0 and 1 are always live."
     pub fn live_bits(&self) -> i64 {
-        self.fault_enable | 0b11
-    }
-}
-
-/// The rule of one setting, in the words of "Settings, in order".
-///
-/// A relation belongs to the setting that states it: 4 is "below setting 3",
-/// 5 is "not below setting 3", 22 is "below setting 21".
-fn keeps_its_rule(place: usize, setting: &dyn Fn(usize) -> i64) -> bool {
-    let value = setting(place);
-    let within = |least: i64, most: i64| least <= value && value <= most;
-    match place {
-        1 => within(0, 1),
-        3 => within(0, 4095),
-        4 => within(0, 4095) && value < setting(3),
-        5 => within(0, 4095) && value >= setting(3),
-        6 => within(0, 4095),
-        // "7 RotorLockTime, 8 FluxFaultTime, 9 HallTimeoutPeriod 1..65535":
-        // one range for the three names before it.
-        7..=9 => within(1, 65535),
-        11 => within(0, 16383),
-        12 => within(0, 32767),
-        13 => within(1, 4095),
-        14 => within(0, 7),
-        17 => within(0, 16383),
-        18 => within(0, 255),
-        21 => within(0, 4095),
-        22 => within(0, 4095) && value < setting(21),
-        24 => within(0, 100),
-        // 2, 10, 15, 16, 19, 20 and 23: "any".
-        _ => true,
+        self[FaultEnable] | Flag::GateKill.bit() | Flag::CriticalOverVoltage.bit()
     }
 }

@@ -65,6 +65,14 @@ impl State {
 
     /// "in the six starting and running states (3, 4, 6, 7, 8, 9)".
     pub fn is_starting_or_running(self) -> bool {
-        matches!(self.number(), 3 | 4 | 6 | 7 | 8 | 9)
+        match self {
+            State::BtsCharge
+            | State::MotorRun
+            | State::CatchSpin
+            | State::Parking
+            | State::OpenLoop
+            | State::AngleSensing => true,
+            State::Idle | State::Stop | State::OffsetCal | State::Fault => false,
+        }
     }
 }

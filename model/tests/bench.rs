@@ -47,7 +47,7 @@ fn p4_two_dead_samples() {
 /// "P5 boundary -32768 with offset -1: 32767."
 #[test]
 fn p5_angle_wraps() {
-    let drive = loaded(&[(10, 65535)]);
+    let drive = loaded(&[(HallAngleOffset, 65535)]);
     assert_eq!(shown(&patterns(&drive, &[6, 4])).angle, 32767);
     assert_eq!(shown(&patterns(&drive, &[4, 6])).angle, 32767);
 }
@@ -68,7 +68,7 @@ fn p6_gates() {
     let drive = tick(&loaded(&[]), &both);
     assert_eq!((shown(&drive).live_word, shown(&drive).gate), (3, 0));
     // Also with a FaultEnable that masks everything else.
-    let drive = tick(&loaded(&[(2, 0)]), &brake);
+    let drive = tick(&loaded(&[(FaultEnable, 0)]), &brake);
     assert_eq!((shown(&drive).live_word, shown(&drive).gate), (2, 3));
 }
 
@@ -114,14 +114,14 @@ fn p8_ramp() {
 /// "P9 control 1424, CmdStart 400, gain 4096, MinSpd 600: target 1624."
 #[test]
 fn p9_target_of_mode_1() {
-    let drive = loaded(&[(1, 1)]);
+    let drive = loaded(&[(ControlMode, 1)]);
     let fields = TickFields {
         control: 1424,
         ..high()
     };
     assert_eq!(fields.reference_target(&drive.settings), 1624);
     // A run that arrives there.
-    let drive = running(&[(1, 1), (12, 32767)]);
+    let drive = running(&[(ControlMode, 1), (SpdRampRate, 32767)]);
     let drive = ticks(&drive, &fields, 1000);
     assert_eq!(shown(&drive).speed_reference, 1624);
 }

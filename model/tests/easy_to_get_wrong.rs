@@ -39,16 +39,16 @@ fn one_move_a_tick_out_of_fault_too() {
 
 #[test]
 fn the_nth_tick_of_a_state_is_the_nth_after_the_one_that_entered_it() {
-    let drive = in_state(State::Parking, &[(19, 3)]);
+    let drive = in_state(State::Parking, &[(ParkTime, 3)]);
     let drive = ticks(&drive, &high(), 2);
     assert_eq!(drive.state, State::Parking);
     assert_eq!(tick(&drive, &high()).state, State::OpenLoop);
     // ParkTime 0 and 1: the first.
     for park_time in [0, 1] {
-        let drive = in_state(State::Parking, &[(19, park_time)]);
+        let drive = in_state(State::Parking, &[(ParkTime, park_time)]);
         assert_eq!(tick(&drive, &high()).state, State::OpenLoop);
     }
-    let drive = in_state(State::CatchSpin, &[(16, 2)]);
+    let drive = in_state(State::CatchSpin, &[(TCatchSpin, 2)]);
     let drive = tick(&drive, &high());
     assert_eq!(drive.state, State::CatchSpin);
     assert_eq!(tick(&drive, &high()).state, State::AngleSensing);
@@ -56,12 +56,12 @@ fn the_nth_tick_of_a_state_is_the_nth_after_the_one_that_entered_it() {
 
 #[test]
 fn faults_ticks_are_counted_while_a_cause_stands() {
-    let drive = ticks(&in_state(State::Fault, &[(1, 1)]), &kill(), 9_999);
+    let drive = ticks(&in_state(State::Fault, &[(ControlMode, 1)]), &kill(), 9_999);
     assert_eq!(drive.state, State::Fault);
     let drive = tick(&drive, &high());
     assert_eq!((drive.state, drive.retries_used), (State::Stop, 1));
     // Without the cause as well, not one tick sooner.
-    let drive = ticks(&in_state(State::Fault, &[(1, 1)]), &high(), 9_999);
+    let drive = ticks(&in_state(State::Fault, &[(ControlMode, 1)]), &high(), 9_999);
     assert_eq!(drive.state, State::Fault);
     assert_eq!(tick(&drive, &high()).state, State::Stop);
 }
@@ -90,7 +90,7 @@ fn in_fault_new_causes_set_flags_and_the_gates_follow() {
 
 #[test]
 fn clear_wins_over_a_retry_in_one_tick() {
-    let drive = ticks(&in_state(State::Fault, &[(1, 1)]), &high(), 9_999);
+    let drive = ticks(&in_state(State::Fault, &[(ControlMode, 1)]), &high(), 9_999);
     let drive = tick(&drive, &clear());
     assert_eq!(
         (drive.state, drive.retries_used, drive.armed),
@@ -101,7 +101,7 @@ fn clear_wins_over_a_retry_in_one_tick() {
 #[test]
 fn an_exit_zeroes_all_sixteen_flags() {
     // Only bits 0 and 1 are live; 2, 6 and 15 are set and masked.
-    let drive = patterns(&loaded(&[(2, 0)]), &[0, 0, 1]);
+    let drive = patterns(&loaded(&[(FaultEnable, 0)]), &[0, 0, 1]);
     let fields = TickFields {
         vdc_filt: 4095,
         temperature: 4095,
@@ -120,7 +120,7 @@ fn a_masked_cause_is_flagged_again() {
         ..high()
     };
     let drive = tick(
-        &loaded(&[(2, 0)]),
+        &loaded(&[(FaultEnable, 0)]),
         &TickFields {
             gate_kill: 1,
             ..hot
@@ -161,7 +161,11 @@ fn a_tick_that_enters_fault_ends_disarmed() {
 fn a_retry_arms() {
     // The command has been high since the load: the retry stands in for the
     // low.
-    let drive = ticks(&in_state(State::Fault, &[(1, 1)]), &high(), 10_000);
+    let drive = ticks(
+        &in_state(State::Fault, &[(ControlMode, 1)]),
+        &high(),
+        10_000,
+    );
     assert_eq!(
         (drive.state, drive.armed, drive.retries_used),
         (State::Stop, true, 1)
@@ -172,7 +176,7 @@ fn a_retry_arms() {
 
 #[test]
 fn retries_end_at_the_limit_and_a_clear_gives_them_back() {
-    let mut drive = measured(&[(1, 1), (24, 2)]);
+    let mut drive = measured(&[(ControlMode, 1), (RetryLimit, 2)]);
     for retry in 1..=2 {
         drive = ticks(&tick(&drive, &kill()), &high(), 10_000);
         assert_eq!((drive.state, drive.retries_used), (State::Stop, retry));
@@ -192,7 +196,7 @@ fn mode_0_has_no_retry() {
 
 #[test]
 fn load_in_stop_with_a_live_flag_clears_everything() {
-    let drive = measured(&[(1, 1)]);
+    let drive = measured(&[(ControlMode, 1)]);
     let drive = ticks(&tick(&drive, &kill()), &high(), 10_000);
     let drive = patterns(&drive, &[1, 3, 3, 0, 0]);
     let answer = shown(&drive);
@@ -210,30 +214,37 @@ fn load_in_stop_with_a_live_flag_clears_everything() {
 
 #[test]
 fn a_relation_belongs_to_the_setting_that_states_it() {
-    let place = |changes: &[(usize, u16)]| {
+    let place = |changes: &[(Setting, u16)]| {
         let answer = Drive::power_up().load(&settings_with(changes)).answer;
         (answer.number, answer.place)
     };
     // VdcOvLevel 0: 3 itself is good, 4 is not below it.
-    assert_eq!(place(&[(3, 0), (4, 0)]), (2, 4));
+    assert_eq!(place(&[(VdcOvLevel, 0), (VdcLvLevel, 0)]), (2, 4));
     // VdcOvLevel above CriticalOvLevel: 5.
-    assert_eq!(place(&[(3, 3501)]), (2, 5));
+    assert_eq!(place(&[(VdcOvLevel, 3501)]), (2, 5));
     // CmdStart 0: 22.
-    assert_eq!(place(&[(21, 0), (22, 0)]), (2, 22));
+    assert_eq!(place(&[(CmdStart, 0), (CmdStop, 0)]), (2, 22));
     // At the edge: accepted.
-    assert_eq!(place(&[(4, 2999), (5, 3000), (22, 399)]), (0, 0));
+    assert_eq!(
+        place(&[(VdcLvLevel, 2999), (CriticalOvLevel, 3000), (CmdStop, 399)]),
+        (0, 0)
+    );
 }
 
 #[test]
 fn counters_do_not_wrap() {
     // A cause that ends after FAULT's 65,536th tick still gets its retry.
     for standing in [65_535, 65_536, 65_537, 70_000] {
-        let drive = ticks(&in_state(State::Fault, &[(1, 1)]), &kill(), standing);
+        let drive = ticks(
+            &in_state(State::Fault, &[(ControlMode, 1)]),
+            &kill(),
+            standing,
+        );
         assert_eq!(drive.state, State::Fault);
         assert_eq!(tick(&drive, &high()).state, State::Stop);
     }
     // "Cycles in the present state are counted to at most 65535."
-    let drive = tick(&armed(&[(15, 65535)]), &high());
+    let drive = tick(&armed(&[(BtsChargeTime, 65535)]), &high());
     let drive = cycles(&drive, 1, 65_534);
     assert_eq!(tick(&drive, &high()).state, State::BtsCharge);
     for more in [1, 2, 10] {

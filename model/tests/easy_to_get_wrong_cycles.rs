@@ -24,7 +24,7 @@ fn a_cycle_sets_flag_15_in_every_state_but_idle() {
 
 #[test]
 fn a_masked_flag_15_leaves_the_gates() {
-    let drive = patterns(&running(&[(2, 0x7FFF)]), &[0, 0]);
+    let drive = patterns(&running(&[(FaultEnable, 0x7FFF)]), &[0, 0]);
     assert_eq!(
         (drive.flags, shown(&drive).live_word, shown(&drive).gate),
         (0x8000, 0, 2)
@@ -41,7 +41,7 @@ fn dead_samples_with_none_kept_count_too() {
 #[test]
 fn no_exit_from_fault_resets_the_dead_streak() {
     // Masked: the exit is allowed, and the next tick flags again.
-    let drive = tick(&patterns(&loaded(&[(2, 0)]), &[0, 0]), &kill());
+    let drive = tick(&patterns(&loaded(&[(FaultEnable, 0)]), &[0, 0]), &kill());
     let drive = tick(&drive, &clear());
     assert_eq!(
         (drive.state, drive.flags, drive.dead_streak),
@@ -69,16 +69,22 @@ fn the_third_stray_is_not_kept() {
 
 #[test]
 fn the_offset_is_added_to_middles_too() {
-    assert_eq!(shown(&patterns(&loaded(&[(10, 100)]), &[3])).angle, 5561);
     assert_eq!(
-        shown(&patterns(&loaded(&[(10, 100)]), &[3, 2])).angle,
+        shown(&patterns(&loaded(&[(HallAngleOffset, 100)]), &[3])).angle,
+        5561
+    );
+    assert_eq!(
+        shown(&patterns(&loaded(&[(HallAngleOffset, 100)]), &[3, 2])).angle,
         11022
     );
     // "Before any pattern it is 0, without offset."
-    assert_eq!(shown(&patterns(&loaded(&[(10, 100)]), &[0])).angle, 0);
+    assert_eq!(
+        shown(&patterns(&loaded(&[(HallAngleOffset, 100)]), &[0])).angle,
+        0
+    );
     // A forgotten pattern leaves the angle.
     assert_eq!(
-        shown(&patterns(&loaded(&[(10, 100)]), &[3, 0, 0])).angle,
+        shown(&patterns(&loaded(&[(HallAngleOffset, 100)]), &[3, 0, 0])).angle,
         5561
     );
 }
@@ -99,18 +105,18 @@ fn the_still_count_grows_with_none_kept_and_in_every_state() {
 #[test]
 fn counts_are_judged_at_ticks() {
     // BtsChargeTime 0 is done at the first tick.
-    let drive = tick(&armed(&[(15, 0)]), &high());
+    let drive = tick(&armed(&[(BtsChargeTime, 0)]), &high());
     assert_eq!(tick(&drive, &high()).state, State::CatchSpin);
     // MinSpd 0 leaves OPENLOOP at once, though the ramp is not 0.
-    let drive = in_state(State::OpenLoop, &[(11, 0), (20, 5)]);
+    let drive = in_state(State::OpenLoop, &[(MinSpd, 0), (OpenLoopRamp, 5)]);
     assert_eq!(tick(&drive, &high()).state, State::MotorRun);
     // Any other MinSpd waits for the speed, of either sign.
-    let drive = in_state(State::OpenLoop, &[(20, 5)]);
+    let drive = in_state(State::OpenLoop, &[(OpenLoopRamp, 5)]);
     let speed = |speed| TickFields { speed, ..high() };
     assert_eq!(tick(&drive, &speed(-599)).state, State::OpenLoop);
     assert_eq!(tick(&drive, &speed(-600)).state, State::MotorRun);
     // 6 x IS_Pulses cycles.
-    let drive = in_state(State::AngleSensing, &[(18, 2)]);
+    let drive = in_state(State::AngleSensing, &[(IsPulses, 2)]);
     let drive = cycles(&drive, 1, 11);
     assert_eq!(tick(&drive, &high()).state, State::AngleSensing);
     assert_eq!(tick(&cycle(&drive, 1), &high()).state, State::MotorRun);
@@ -123,11 +129,11 @@ fn min_spd_above_4095_empties_the_range_of_flag_7() {
         speed,
         ..high()
     };
-    let drive = running(&[(7, 1), (11, 4096)]);
+    let drive = running(&[(RotorLockTime, 1), (MinSpd, 4096)]);
     for speed in [4095, 4096, 5000] {
         assert_eq!(ticks(&drive, &locked(speed), 30).flags, 0);
     }
-    let drive = running(&[(7, 1), (11, 4095)]);
+    let drive = running(&[(RotorLockTime, 1), (MinSpd, 4095)]);
     assert_eq!(ticks(&drive, &locked(-4095), 10).flags, 1 << 7);
 }
 
@@ -150,7 +156,12 @@ fn entering_motorrun_takes_the_ticks_speed_whole() {
 
 #[test]
 fn cmd_gain_is_unsigned() {
-    let drive = running(&[(1, 1), (12, 32767), (11, 0), (23, 65535)]);
+    let drive = running(&[
+        (ControlMode, 1),
+        (SpdRampRate, 32767),
+        (MinSpd, 0),
+        (CmdGain, 65535),
+    ]);
     let fields = TickFields {
         control: 500,
         ..high()
@@ -161,7 +172,7 @@ fn cmd_gain_is_unsigned() {
 
 #[test]
 fn a_reference_between_minus_1_and_0_prints_a_plus() {
-    let drive = tick(&in_state(State::OpenLoop, &[(11, 0)]), &high());
+    let drive = tick(&in_state(State::OpenLoop, &[(MinSpd, 0)]), &high());
     let drive = tick(
         &drive,
         &TickFields {
@@ -197,7 +208,7 @@ fn the_least_speed_and_target_are_refused() {
 #[test]
 fn refused_calls_count_nothing_and_reset_nothing() {
     let drive = ticks(
-        &running(&[(7, 1)]),
+        &running(&[(RotorLockTime, 1)]),
         &TickFields {
             trq_ref: 4095,
             speed: 600,
@@ -212,7 +223,7 @@ fn refused_calls_count_nothing_and_reset_nothing() {
     assert_eq!(reply.drive, drive);
     let reply = drive.cycle(&CycleFields {
         pattern: 3,
-        samples: [0, 4096],
+        samples: pair(0, 4096),
     });
     assert_eq!(reply.drive, drive);
     let reply = drive.load(&EXAMPLE);
@@ -224,7 +235,7 @@ fn offsets_are_the_first_n_samples_rounded_down() {
     let mut drive = tick(&loaded(&[]), &low());
     let samples = |first, second| CycleFields {
         pattern: 1,
-        samples: [first, second],
+        samples: pair(first, second),
     };
     for _ in 0..63 {
         drive = accepted(drive.cycle(&samples(100, 4095)));
@@ -238,7 +249,7 @@ fn offsets_are_the_first_n_samples_rounded_down() {
     // floor(6463 / 64) = 100, floor(262079 / 64) = 4094
     assert_eq!(
         (drive.state, shown(&drive).offsets),
-        (State::Stop, [100, 4094])
+        (State::Stop, pair(100, 4094))
     );
 }
 
@@ -247,10 +258,16 @@ fn a_trip_in_offsetcal_loses_the_sums() {
     let drive = tick(&loaded(&[]), &low());
     let drive = accepted(drive.cycle(&CycleFields {
         pattern: 1,
-        samples: [4095, 4095],
+        samples: pair(4095, 4095),
     }));
     let drive = tick(&tick(&tick(&drive, &kill()), &clear()), &high());
-    assert_eq!((drive.state, drive.offset_sums), (State::OffsetCal, [0, 0]));
+    assert_eq!(
+        (drive.state, drive.offset_sums),
+        (State::OffsetCal, pair(0, 0))
+    );
     let drive = tick(&cycles(&drive, 1, 64), &high());
-    assert_eq!((drive.state, shown(&drive).offsets), (State::Stop, [0, 0]));
+    assert_eq!(
+        (drive.state, shown(&drive).offsets),
+        (State::Stop, pair(0, 0))
+    );
 }

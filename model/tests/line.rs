@@ -1,6 +1,6 @@
 //! The report line call.
 
-use model::{report_line, Answer};
+use model::{report_line, Answer, Pair};
 
 fn answer() -> Answer {
     Answer {
@@ -12,7 +12,10 @@ fn answer() -> Answer {
         speed_reference: -32768,
         position: 0xDEADBEEF,
         angle: -1,
-        offsets: [1, 2],
+        offsets: Pair {
+            first: 1,
+            second: 2,
+        },
         retries_used: 3,
     }
 }

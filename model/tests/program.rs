@@ -11,7 +11,7 @@ const STOP: &str = "STOP........ 0 0000 +00000 00000000 +00000\n";
 fn cycle_record(pattern: i64) -> Record {
     Record::Cycle(CycleFields {
         pattern,
-        samples: [0, 0],
+        samples: pair(0, 0),
     })
 }
 
@@ -53,7 +53,7 @@ fn bytes_of_the_records() {
     assert_eq!(
         Record::Cycle(CycleFields {
             pattern: 5,
-            samples: [258, 4095]
+            samples: pair(258, 4095)
         })
         .bytes(),
         [b'C', 5, 1, 2, 15, 255]

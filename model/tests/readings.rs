@@ -20,7 +20,15 @@ fn flux(flx_m: i64) -> TickFields {
 /// Bits 4, 7 and 14 do not stand in FAULT: nothing is counted there.
 #[test]
 fn slow_causes_do_not_stand_in_fault() {
-    let drive = cycles(&running(&[(7, 1), (8, 1), (9, 1)]), 1, 4096);
+    let drive = cycles(
+        &running(&[
+            (RotorLockTime, 1),
+            (FluxFaultTime, 1),
+            (HallTimeoutPeriod, 1),
+        ]),
+        1,
+        4096,
+    );
     let fields = TickFields {
         flx_m: 0,
         ..locked()
@@ -34,7 +42,7 @@ fn slow_causes_do_not_stand_in_fault() {
         State::Stop
     );
     // A Hall time-out can be cleared though the shaft stays at rest.
-    let drive = cycles(&running(&[(9, 1)]), 1, 4096);
+    let drive = cycles(&running(&[(HallTimeoutPeriod, 1)]), 1, 4096);
     let drive = ticks(&drive, &high(), 10);
     assert_eq!((drive.state, drive.flags), (State::Fault, 1 << 14));
     assert_eq!(tick(&drive, &clear()).state, State::Stop);
@@ -43,7 +51,7 @@ fn slow_causes_do_not_stand_in_fault() {
 /// "at most 16383" limits the whole target.
 #[test]
 fn the_whole_target_is_limited() {
-    let drive = loaded(&[(1, 1), (11, 16000), (23, 4096)]);
+    let drive = loaded(&[(ControlMode, 1), (MinSpd, 16000), (CmdGain, 4096)]);
     let target = |control| TickFields { control, ..high() }.reference_target(&drive.settings);
     assert_eq!(target(399), 16000);
     assert_eq!(target(400), 16000);
@@ -56,12 +64,16 @@ fn the_whole_target_is_limited() {
 /// is the one at which flags 7 and 14 stand.
 #[test]
 fn the_entering_tick_is_not_counted() {
-    let open_loop = in_state(State::OpenLoop, &[(7, 1)]);
+    let open_loop = in_state(State::OpenLoop, &[(RotorLockTime, 1)]);
     let drive = ticks(&tick(&open_loop, &locked()), &locked(), 9);
     assert_eq!((drive.state, drive.flags), (State::MotorRun, 0));
     let drive = tick(&drive, &locked());
     assert_eq!((drive.state, drive.flags), (State::Fault, 1 << 7));
-    let open_loop = cycles(&in_state(State::OpenLoop, &[(9, 1)]), 1, 4096);
+    let open_loop = cycles(
+        &in_state(State::OpenLoop, &[(HallTimeoutPeriod, 1)]),
+        1,
+        4096,
+    );
     let drive = ticks(&tick(&open_loop, &high()), &high(), 9);
     assert_eq!((drive.state, drive.flags), (State::MotorRun, 0));
     assert_eq!(tick(&drive, &high()).flags, 1 << 14);
@@ -85,7 +97,7 @@ fn a_rotor_lock_run_must_be_consecutive() {
         },
     ];
     for fields in breaks {
-        let drive = ticks(&running(&[(7, 1)]), &locked(), 9);
+        let drive = ticks(&running(&[(RotorLockTime, 1)]), &locked(), 9);
         let drive = ticks(&tick(&drive, &fields), &locked(), 9);
         assert_eq!(drive.flags, 0);
         assert_eq!(tick(&drive, &locked()).flags, 1 << 7);
@@ -97,7 +109,7 @@ fn a_rotor_lock_run_must_be_consecutive() {
 #[test]
 fn slots_of_flag_4() {
     // floor(5 x 4 / 4) = 5 ticks a slot, one bad tick in each, at its start.
-    let mut drive = running(&[(8, 4)]);
+    let mut drive = running(&[(FluxFaultTime, 4)]);
     for slot in 1..=8 {
         drive = ticks(&tick(&drive, &flux(511)), &flux(512), 3);
         assert_eq!(drive.flags, 0, "slot {slot}");
@@ -106,13 +118,13 @@ fn slots_of_flag_4() {
     assert_eq!((drive.state, drive.flags), (State::Fault, 1 << 4));
     // The grid begins at the entry, not at the first bad tick: two bad ticks
     // in one slot and none in the next.
-    let mut drive = running(&[(8, 2)]);
+    let mut drive = running(&[(FluxFaultTime, 2)]);
     for _ in 0..20 {
         drive = ticks(&ticks(&drive, &flux(8193), 2), &flux(2048), 2);
     }
     assert_eq!(drive.flags, 0);
     // Shifted by one tick, every slot is bad.
-    let mut drive = tick(&running(&[(8, 2)]), &flux(8193));
+    let mut drive = tick(&running(&[(FluxFaultTime, 2)]), &flux(8193));
     drive = tick(&drive, &flux(2048));
     for _ in 0..6 {
         drive = tick(&tick(&drive, &flux(2048)), &flux(8193));
@@ -125,8 +137,13 @@ fn slots_of_flag_4() {
 /// ninth as well, and not after a good one.
 #[test]
 fn flag_4_after_the_eighth_slot() {
-    let mut drive = ticks(&running(&[(2, 0), (8, 1)]), &flux(0), 8);
-    let stands = |drive: &model::Drive, fields: &TickFields| drive.clone().standing_causes(fields);
+    let mut drive = ticks(
+        &running(&[(FaultEnable, 0), (FluxFaultTime, 1)]),
+        &flux(0),
+        8,
+    );
+    let stands =
+        |drive: &model::Drive, fields: &TickFields| drive.counted(fields).standing_causes(fields);
     assert_eq!(drive.flags, 1 << 4);
     assert_eq!(stands(&drive, &flux(65535)), 1 << 4);
     drive = tick(&drive, &flux(512));
@@ -138,7 +155,11 @@ fn flag_4_after_the_eighth_slot() {
 /// between two ticks do not break the run; a step alone does.
 #[test]
 fn the_still_count_is_looked_at_once_per_tick() {
-    let drive = ticks(&cycles(&running(&[(9, 1)]), 1, 4096), &high(), 9);
+    let drive = ticks(
+        &cycles(&running(&[(HallTimeoutPeriod, 1)]), 1, 4096),
+        &high(),
+        9,
+    );
     let rested = cycles(&cycle(&drive, 3), 3, 4096);
     assert_eq!(tick(&rested, &high()).flags, 1 << 14);
     let stepped = cycles(&cycle(&drive, 3), 3, 4095);
@@ -150,7 +171,10 @@ fn the_still_count_is_looked_at_once_per_tick() {
 #[test]
 fn catchspin_at_equality() {
     let to = |threshold, speed| {
-        let drive = in_state(State::CatchSpin, &[(16, 1), (17, threshold)]);
+        let drive = in_state(
+            State::CatchSpin,
+            &[(TCatchSpin, 1), (DirectStartThr, threshold)],
+        );
         tick(&drive, &TickFields { speed, ..high() }).state
     };
     assert_eq!(to(300, 300), State::AngleSensing);
@@ -164,11 +188,11 @@ fn catchspin_at_equality() {
 #[test]
 fn error_offset_subtracted() {
     assert_eq!(
-        shown(&patterns(&loaded(&[(10, 1000)]), &[1, 3])).angle,
+        shown(&patterns(&loaded(&[(HallAngleOffset, 1000)]), &[1, 3])).angle,
         1000
     );
     assert_eq!(
-        shown(&patterns(&loaded(&[(10, 64536)]), &[1, 3])).angle,
+        shown(&patterns(&loaded(&[(HallAngleOffset, 64536)]), &[1, 3])).angle,
         -1000
     );
 }
@@ -177,12 +201,12 @@ fn error_offset_subtracted() {
 #[test]
 fn error_high_taken_as_a_start() {
     for mode in [0, 1] {
-        let drive = measured(&[(1, mode)]);
+        let drive = measured(&[(ControlMode, mode)]);
         assert_eq!(ticks(&drive, &high(), 20).state, State::Stop);
-        let drive = tick(&in_state(State::Fault, &[(1, mode)]), &clear());
+        let drive = tick(&in_state(State::Fault, &[(ControlMode, mode)]), &clear());
         assert_eq!(ticks(&drive, &high(), 20).state, State::Stop);
         // A low in the very tick that leaves FAULT does not arm either.
-        let drive = in_state(State::Fault, &[(1, mode)]);
+        let drive = in_state(State::Fault, &[(ControlMode, mode)]);
         let drive = tick(&drive, &TickFields { clear: 1, ..low() });
         assert_eq!(ticks(&drive, &high(), 20).state, State::Stop);
         let drive = tick(&drive, &low());
@@ -218,7 +242,7 @@ fn error_retry_with_a_cause() {
         temperature: 3501,
         ..high()
     };
-    let drive = tick(&measured(&[(1, 1)]), &hot);
+    let drive = tick(&measured(&[(ControlMode, 1)]), &hot);
     let drive = ticks(&drive, &hot, 10_050);
     assert_eq!(
         (drive.state, drive.flags, drive.retries_used),
@@ -240,7 +264,7 @@ fn error_retry_with_a_cause() {
 /// Error met: "A reverse spin judged by signed speed."
 #[test]
 fn error_reverse_spin() {
-    let drive = in_state(State::CatchSpin, &[(16, 1)]);
+    let drive = in_state(State::CatchSpin, &[(TCatchSpin, 1)]);
     let drive = tick(
         &drive,
         &TickFields {

@@ -2,6 +2,7 @@
 
 mod common;
 use common::*;
+use model::settings::RULES;
 use model::state::ALL_STATES;
 use model::{CycleFields, Drive, State, TickFields};
 
@@ -25,39 +26,52 @@ fn load_of_another_length() {
 #[test]
 fn settings_that_break_their_rules() {
     let idle = Drive::power_up();
-    let bad: [(usize, u16); 24] = [
-        (1, 2),
-        (3, 4096),
-        (4, 3000),
-        (4, 4096),
-        (5, 2999),
-        (5, 4096),
-        (6, 4096),
-        (7, 0),
-        (8, 0),
-        (9, 0),
-        (11, 16384),
-        (12, 32768),
-        (13, 0),
-        (13, 4096),
-        (14, 8),
-        (17, 16384),
-        (18, 256),
-        (21, 4096),
-        (22, 400),
-        (22, 4096),
-        (24, 101),
-        (24, 65535),
-        (22, 401),
-        (4, 3001),
+    let bad: [(Setting, u16); 24] = [
+        (ControlMode, 2),
+        (VdcOvLevel, 4096),
+        (VdcLvLevel, 3000),
+        (VdcLvLevel, 4096),
+        (CriticalOvLevel, 2999),
+        (CriticalOvLevel, 4096),
+        (Tshutdown, 4096),
+        (RotorLockTime, 0),
+        (FluxFaultTime, 0),
+        (HallTimeoutPeriod, 0),
+        (MinSpd, 16384),
+        (SpdRampRate, 32768),
+        (MotorLim, 0),
+        (MotorLim, 4096),
+        (OffsetPsc, 8),
+        (DirectStartThr, 16384),
+        (IsPulses, 256),
+        (CmdStart, 4096),
+        (CmdStop, 400),
+        (CmdStop, 4096),
+        (RetryLimit, 101),
+        (RetryLimit, 65535),
+        (CmdStop, 401),
+        (VdcLvLevel, 3001),
     ];
-    for (place, value) in bad {
-        let numbers = settings_with(&[(place, value)]);
-        refused(idle.load(&numbers), &idle, 2, place as u8);
+    for (setting, value) in bad {
+        let place = setting.place() as u8;
+        let numbers = settings_with(&[(setting, value)]);
+        refused(idle.load(&numbers), &idle, 2, place);
         let stop = loaded(&[]);
-        refused(stop.load(&numbers), &stop, 2, place as u8);
+        refused(stop.load(&numbers), &stop, 2, place);
     }
-    refused(idle.load(&settings_with(&[(24, 101), (7, 0)])), &idle, 2, 7);
+    refused(
+        idle.load(&settings_with(&[(RetryLimit, 101), (RotorLockTime, 0)])),
+        &idle,
+        2,
+        7,
+    );
+}
+
+#[test]
+fn rules_stand_in_the_order_of_the_places() {
+    for (place, rule) in (1..).zip(&RULES) {
+        assert_eq!(rule.setting.place(), place, "{}", rule.name);
+    }
 }
 
 /// The ends of every range are accepted.
@@ -74,7 +88,15 @@ fn settings_at_their_ends() {
         let drive = accepted(Drive::power_up().load(&numbers));
         assert_eq!(drive.state, State::Stop);
     }
-    assert_eq!(loaded(&[(10, 32768)]).settings.hall_angle_offset, -32768);
+    // What the generator and `reached` take for the ends.
+    for (rule, (least, most)) in RULES.iter().zip(least.into_iter().zip(most)) {
+        let ends = (least as i64, most as i64);
+        assert_eq!(rule.setting.accepted_ends(), ends, "{}", rule.name);
+    }
+    assert_eq!(
+        loaded(&[(HallAngleOffset, 32768)]).settings[Setting::HallAngleOffset],
+        -32768
+    );
 }
 
 /// "3 before 1": cycle or tick in IDLE.
@@ -84,7 +106,7 @@ fn cycle_and_tick_in_idle() {
     refused(
         idle.cycle(&CycleFields {
             pattern: 1,
-            samples: [0, 0],
+            samples: pair(0, 0),
         }),
         &idle,
         3,
@@ -93,7 +115,7 @@ fn cycle_and_tick_in_idle() {
     refused(
         idle.cycle(&CycleFields {
             pattern: 9,
-            samples: [-1, 9999],
+            samples: pair(-1, 9999),
         }),
         &idle,
         3,
@@ -130,7 +152,7 @@ fn fields_out_of_range() {
     let stop = loaded(&[]);
     let cycle = |pattern, first, second| CycleFields {
         pattern,
-        samples: [first, second],
+        samples: pair(first, second),
     };
     refused(stop.cycle(&cycle(8, 4096, 4096)), &stop, 1, 1);
     refused(stop.cycle(&cycle(-1, 0, 0)), &stop, 1, 1);

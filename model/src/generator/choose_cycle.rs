@@ -3,6 +3,7 @@
 use super::mood::HallMood;
 use super::Generator;
 use crate::cycle::CycleFields;
+use crate::drive::Pair;
 use crate::hall::{next_pattern, previous_pattern, CLOCKWISE};
 use crate::record::Record;
 
@@ -31,7 +32,10 @@ impl Generator {
 
     fn cycle_with(&mut self, pattern: i64) -> Record {
         let most = self.mood.most_sample;
-        let samples = [self.random.leaning(0, most), self.random.between(0, most)];
+        let samples = Pair {
+            first: self.random.leaning(0, most),
+            second: self.random.between(0, most),
+        };
         Record::Cycle(CycleFields { pattern, samples })
     }
 

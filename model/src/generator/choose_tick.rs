@@ -1,6 +1,11 @@
 //! The fields of a tick.
 
 use super::Generator;
+use crate::causes::{BAD_SLOTS, GOOD_FLUX, MOST_LOCKED_SPEED};
+use crate::fields::MOST_LEVEL;
+use crate::flag::Flag;
+use crate::random::Random;
+use crate::settings::Setting;
 use crate::state::State;
 use crate::tick::TickFields;
 
@@ -18,21 +23,24 @@ impl Generator {
     /// A tick at which no cause of flags 0, 1, 2, 3 and 6 stands.  Values lean
     /// to the last ones that are still good.
     pub(super) fn quiet_tick(&mut self, command: Command) -> TickFields {
-        let settings = self.drive.settings.clone();
+        let settings = self.drive.settings;
         let (field_command, control) = self.command_fields(command);
         if self.random.chance(30) {
             self.mood.target = self.new_target();
         }
+        let random = &mut self.random;
+        let vdc_raw = random.leaning(0, settings[Setting::CriticalOvLevel]);
+        let vdc_filt = random.leaning(settings[Setting::VdcLvLevel], settings[Setting::VdcOvLevel]);
+        let temperature = random.leaning(0, settings[Setting::Tshutdown]);
+        self.plan_flux_slot();
         TickFields {
             gate_kill: 0,
             clear: 0,
             command: field_command,
             control,
-            vdc_raw: self.random.leaning(0, settings.critical_ov_level),
-            vdc_filt: self
-                .random
-                .leaning(settings.vdc_lv_level, settings.vdc_ov_level),
-            temperature: self.random.leaning(0, settings.tshutdown),
+            vdc_raw,
+            vdc_filt,
+            temperature,
             flx_m: self.flux(),
             trq_ref: self.torque(),
             speed: self.speed(),
@@ -53,10 +61,13 @@ impl Generator {
     }
 
     pub(super) fn add_masked_causes(&mut self, fields: &mut TickFields) {
-        for bit in [2, 3, 6] {
-            let masked = self.drive.settings.live_bits() & (1 << bit) == 0;
-            if masked && self.random.chance(self.mood.masked_cause) {
-                self.add_cause(fields, bit);
+        for flag in Flag::OF_ONE_TICK
+            .into_iter()
+            .filter(|flag| flag.can_be_masked())
+        {
+            let masked = !flag.is_in(self.drive.settings.live_bits());
+            if masked && self.random.chance(self.mood.masked_cause) && self.can_stand(flag) {
+                self.add_cause(fields, flag);
             }
         }
     }
@@ -65,63 +76,94 @@ impl Generator {
     pub(super) fn add_live_cause(&mut self, fields: &mut TickFields) {
         let live_bits = self.drive.settings.live_bits();
         loop {
-            let bit = self.random.pick(&[0, 1, 1, 2, 3, 6]);
-            let added = live_bits & (1 << bit) != 0 && self.add_cause(fields, bit);
-            if added && self.random.chance(800) {
+            let flag = self.random.pick(&[
+                Flag::GateKill,
+                Flag::CriticalOverVoltage,
+                Flag::CriticalOverVoltage,
+                Flag::OverVoltage,
+                Flag::UnderVoltage,
+                Flag::OverTemperature,
+            ]);
+            if !flag.is_in(live_bits) || !self.can_stand(flag) {
+                continue;
+            }
+            self.add_cause(fields, flag);
+            if self.random.chance(800) {
                 return;
             }
         }
     }
 
-    /// Makes the cause of one flag stand; false where the settings leave no
-    /// value that does.
-    fn add_cause(&mut self, fields: &mut TickFields, bit: i64) -> bool {
+    /// Whether the settings leave a tick a value with which the cause stands.
+    fn can_stand(&self, flag: Flag) -> bool {
         let settings = &self.drive.settings;
-        let random = &mut self.random;
-        match bit {
-            0 => fields.gate_kill = 1,
-            1 if settings.critical_ov_level < 4095 => {
-                fields.vdc_raw = random.leaning(settings.critical_ov_level + 1, 4095);
-            }
-            2 if settings.vdc_ov_level < 4095 => {
-                fields.vdc_filt = random.leaning(settings.vdc_ov_level + 1, 4095);
-            }
-            3 if settings.vdc_lv_level > 0 => {
-                fields.vdc_filt = random.leaning(0, settings.vdc_lv_level - 1);
-            }
-            6 if settings.tshutdown < 4095 => {
-                fields.temperature = random.leaning(settings.tshutdown + 1, 4095);
-            }
-            _ => return false,
+        match flag {
+            Flag::GateKill => true,
+            Flag::CriticalOverVoltage => settings[Setting::CriticalOvLevel] < MOST_LEVEL,
+            Flag::OverVoltage => settings[Setting::VdcOvLevel] < MOST_LEVEL,
+            Flag::UnderVoltage => settings[Setting::VdcLvLevel] > 0,
+            Flag::OverTemperature => settings[Setting::Tshutdown] < MOST_LEVEL,
+            // These take more than one tick.
+            Flag::Flux | Flag::RotorLock | Flag::HallTimeOut | Flag::HallPattern => false,
         }
-        true
+    }
+
+    /// Makes the cause of a flag stand that can.
+    fn add_cause(&mut self, fields: &mut TickFields, flag: Flag) {
+        let settings = &self.drive.settings;
+        let mut above = |setting| self.random.leaning(settings[setting] + 1, MOST_LEVEL);
+        match flag {
+            Flag::GateKill => fields.gate_kill = 1,
+            Flag::CriticalOverVoltage => fields.vdc_raw = above(Setting::CriticalOvLevel),
+            Flag::OverVoltage => fields.vdc_filt = above(Setting::VdcOvLevel),
+            Flag::UnderVoltage => {
+                let least_good = settings[Setting::VdcLvLevel];
+                fields.vdc_filt = self.random.leaning(0, least_good - 1);
+            }
+            Flag::OverTemperature => fields.temperature = above(Setting::Tshutdown),
+            Flag::Flux | Flag::RotorLock | Flag::HallTimeOut | Flag::HallPattern => {
+                unreachable!("{flag:?} takes more than one tick")
+            }
+        }
     }
 
     /// The command and the control of a tick.  The one that the mode does not
     /// look at is anything.
     fn command_fields(&mut self, command: Command) -> (i64, i64) {
-        let settings = self.drive.settings.clone();
+        let settings = self.drive.settings;
         let random = &mut self.random;
-        let not_low_within_range = settings.cmd_stop < 4095;
+        let not_low_within_range = settings[Setting::CmdStop] < MOST_LEVEL;
         let command = match command {
             Command::Any => random.pick(&[Command::Low, Command::High, Command::NotLow]),
             given => given,
         };
-        if settings.control_mode == 0 {
+        if settings[Setting::ControlMode] == 0 {
             let field_command = if command == Command::Low { 0 } else { 1 };
-            let near = [settings.cmd_start, settings.cmd_stop];
+            let near = [settings[Setting::CmdStart], settings[Setting::CmdStop]];
             let control = random.pick(&near) + random.between(-1, 1);
-            let any = random.between(0, 4095);
-            (field_command, random.pick(&[control.clamp(0, 4095), any]))
+            let any = random.between(0, MOST_LEVEL);
+            let near = control.clamp(0, MOST_LEVEL);
+            (field_command, random.pick(&[near, any]))
         } else {
             let control = match command {
-                Command::Low => random.leaning(0, settings.cmd_stop),
+                Command::Low => random.leaning(0, settings[Setting::CmdStop]),
                 Command::NotLow if not_low_within_range => {
-                    random.leaning(settings.cmd_stop + 1, settings.cmd_start)
+                    random.leaning(settings[Setting::CmdStop] + 1, settings[Setting::CmdStart])
                 }
-                _ => random.leaning(settings.cmd_start, 4095),
+                _ => random.leaning(settings[Setting::CmdStart], MOST_LEVEL),
             };
             (random.between(0, 1), control)
+        }
+    }
+
+    /// At the start of a slot: whether it is to become a bad one.
+    fn plan_flux_slot(&mut self) {
+        let drive = &self.drive;
+        if drive.state == State::MotorRun && drive.flux_slot_ticks == 0 {
+            // The eighth slot is often spared, so that runs of seven occur.
+            let spared = drive.flux_bad_slots == BAD_SLOTS - 1;
+            let chance = if spared { 600 } else { 960 };
+            self.mood.slot_to_be_bad = self.mood.flux_bad && self.random.chance(chance);
         }
     }
 
@@ -129,34 +171,30 @@ impl Generator {
     fn flux(&mut self) -> i64 {
         let drive = &self.drive;
         let random = &mut self.random;
+        let (least, most) = (*GOOD_FLUX.start(), *GOOD_FLUX.end());
         if drive.state != State::MotorRun {
-            return random.pick(&[0, 511, 512, 2048, 8192, 8193, 65535]);
-        }
-        if drive.flux_slot_ticks == 0 {
-            // The eighth slot is often spared, so that runs of seven occur.
-            let chance = if drive.flux_bad_slots == 7 { 600 } else { 960 };
-            self.mood.slot_to_be_bad = self.mood.flux_bad && random.chance(chance);
+            return random.pick(&[0, least - 1, least, 2048, most, most + 1, 65535]);
         }
         let last = drive.flux_slot_ticks + 1 == drive.settings.flux_slot_ticks();
         let due = last && !drive.flux_slot_bad;
         if self.mood.slot_to_be_bad && (due || random.chance(300)) {
-            random.pick(&[511, 8193, 0, 65535])
+            random.pick(&[least - 1, most + 1, 0, 65535])
         } else {
-            random.leaning(512, 8192)
+            random.leaning(least, most)
         }
     }
 
     /// TrqRef: at least MotorLim while the mood locks the rotor.
     fn torque(&mut self) -> i64 {
         // In IDLE there are no settings yet, and the limit is 0.
-        let limit = self.drive.settings.motor_lim.max(1);
-        let needed = 10 * self.drive.settings.rotor_lock_time;
+        let limit = self.drive.settings[Setting::MotorLim].max(1);
+        let needed = 10 * self.drive.settings[Setting::RotorLockTime];
         // Runs often end one tick before they would stand.
         let break_off = self.drive.rotor_lock_ticks + 1 == needed && self.random.chance(300);
         let random = &mut self.random;
         let locked = self.mood.rotor_lock && !break_off && random.chance(990);
         let value = if locked {
-            random.leaning(limit, 4095)
+            random.leaning(limit, MOST_LEVEL)
         } else {
             random.leaning(0, limit - 1)
         };
@@ -165,37 +203,42 @@ impl Generator {
 
     /// Speed: around what the state compares it with.
     fn speed(&mut self) -> i64 {
-        let settings = self.drive.settings.clone();
+        let settings = self.drive.settings;
         let random = &mut self.random;
         let any = random.between(0, 32767);
-        let around = |value: i64, random: &mut crate::random::Random| {
-            (value + random.between(-1, 1)).clamp(0, 32767)
-        };
+        let around =
+            |value: i64, random: &mut Random| (value + random.between(-1, 1)).clamp(0, 32767);
         let value = match self.drive.state {
             State::CatchSpin => {
-                let near = around(settings.direct_start_thr, random);
+                let near = around(settings[Setting::DirectStartThr], random);
                 random.pick(&[near, near, near, any, 32767, 0])
             }
             State::OpenLoop => {
-                let below = (settings.min_spd - 1).max(0);
+                let below = (settings[Setting::MinSpd] - 1).max(0);
                 let slow = [below, below, below, below, 0, 0];
-                let fast = [settings.min_spd, settings.min_spd + 1];
+                let fast = [settings[Setting::MinSpd], settings[Setting::MinSpd] + 1];
                 if random.chance(850) {
                     random.pick(&slow)
                 } else {
                     random.pick(&fast)
                 }
             }
-            State::MotorRun if self.mood.rotor_lock && settings.min_spd <= 4095 => {
+            State::MotorRun
+                if self.mood.rotor_lock && settings[Setting::MinSpd] <= MOST_LOCKED_SPEED =>
+            {
                 if random.chance(990) {
-                    random.leaning(settings.min_spd, 4095)
+                    random.leaning(settings[Setting::MinSpd], MOST_LOCKED_SPEED)
                 } else {
-                    random.pick(&[(settings.min_spd - 1).max(0), 4096])
+                    random.pick(&[
+                        (settings[Setting::MinSpd] - 1).max(0),
+                        MOST_LOCKED_SPEED + 1,
+                    ])
                 }
             }
             _ => {
-                let near = around(settings.min_spd, random);
-                random.pick(&[near, 4094, 4095, 4096, 0, 1, 32767, any, any])
+                let near = around(settings[Setting::MinSpd], random);
+                let most = MOST_LOCKED_SPEED;
+                random.pick(&[near, most - 1, most, most + 1, 0, 1, 32767, any, any])
             }
         };
         random.either_sign(value)
@@ -203,7 +246,7 @@ impl Generator {
 
     /// A target to be kept for a while.
     pub(super) fn new_target(&mut self) -> i64 {
-        let least = self.drive.settings.min_spd;
+        let least = self.drive.settings[Setting::MinSpd];
         let reference = self.drive.speed_reference();
         let random = &mut self.random;
         let any = random.between(0, 32767);

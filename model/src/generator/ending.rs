@@ -1,7 +1,7 @@
 //! How a stream ends: between records, or in an unknown or short record.
 
 use super::Generator;
-use crate::record::Record;
+use crate::record::{record_length, Record};
 use crate::state::State;
 
 #[derive(Clone, Copy, Debug, PartialEq, Eq)]
@@ -46,7 +46,7 @@ impl Generator {
             Ending::BetweenRecords => {}
             Ending::UnknownLetter => self.finish_unknown(),
             Ending::ShortLoad => {
-                let record = Record::Load(self.good_settings());
+                let record = Record::Load(self.good_settings().0);
                 self.finish_short(record);
             }
             Ending::ShortCycle => {
@@ -76,13 +76,13 @@ impl Generator {
         if self.random.chance(500) {
             letter = self.random.between(0, 255) as u8;
         }
-        if matches!(letter, b'L' | b'C' | b'T') {
+        if record_length(letter).is_some() {
             letter = b'?';
         }
         self.stream.push(letter);
         if self.random.chance(500) {
             let record = if self.drive.state == State::Stop {
-                Record::Load(self.good_settings())
+                Record::Load(self.good_settings().0)
             } else {
                 self.cycle_record()
             };

@@ -3,8 +3,10 @@
 use super::choose_cycle::Wish;
 use super::choose_tick::Command;
 use super::mood::{HallMood, Mood};
-use super::Generator;
+use super::{all_but, Generator};
+use crate::flag::Flag;
 use crate::record::Record;
+use crate::settings::Setting;
 use crate::state::State;
 
 impl Generator {
@@ -41,18 +43,36 @@ impl Generator {
 
     /// A state of the start that lasts, so that the mood has time in it.
     fn linger(&mut self) {
-        let (state, given): (State, &[(usize, u16)]) = match self.random.between(0, 6) {
-            0 => (State::BtsCharge, &[(15, 65535)]),
-            1 => (State::CatchSpin, &[(16, 65535)]),
-            2 => (State::AngleSensing, &[(16, 0), (18, 255)]),
-            3 => (State::Parking, &[(16, 0), (18, 0), (19, 65535)]),
-            _ => (State::OpenLoop, &[(16, 0), (18, 0), (20, 1), (11, 16383)]),
+        let (state, given): (State, &[(Setting, u16)]) = match self.random.between(0, 6) {
+            0 => (State::BtsCharge, &[(Setting::BtsChargeTime, 65535)]),
+            1 => (State::CatchSpin, &[(Setting::TCatchSpin, 65535)]),
+            2 => (
+                State::AngleSensing,
+                &[(Setting::TCatchSpin, 0), (Setting::IsPulses, 255)],
+            ),
+            3 => (
+                State::Parking,
+                &[
+                    (Setting::TCatchSpin, 0),
+                    (Setting::IsPulses, 0),
+                    (Setting::ParkTime, 65535),
+                ],
+            ),
+            _ => (
+                State::OpenLoop,
+                &[
+                    (Setting::TCatchSpin, 0),
+                    (Setting::IsPulses, 0),
+                    (Setting::OpenLoopRamp, 1),
+                    (Setting::MinSpd, 16383),
+                ],
+            ),
         };
         // Half of the time Hall noise does not trip.
         let masked = self.random.chance(500);
         let mut given = given.to_vec();
         if masked {
-            given.push((2, self.random.between(0, 32767) as u16));
+            given.push((Setting::FaultEnable, self.random.between(0, 32767) as u16));
         }
         self.load_with(&given);
         let mood = self.mood.clone();
@@ -72,7 +92,14 @@ impl Generator {
             let small = self.random.chance(600);
             let rate = if small { rate % 512 } else { rate };
             let least = self.random.pick(&[0, 1, 2, 40]);
-            self.load_with(&[(1, mode), (2, 3), (11, least), (12, rate), (17, 0), (16, 1)]);
+            self.load_with(&[
+                (Setting::ControlMode, mode),
+                (Setting::FaultEnable, 3),
+                (Setting::MinSpd, least),
+                (Setting::SpdRampRate, rate),
+                (Setting::DirectStartThr, 0),
+                (Setting::TCatchSpin, 1),
+            ]);
             self.mood = Mood::calm(&mut self.random);
             self.go_to(State::MotorRun, 500);
             for _ in 0..6 {
@@ -102,7 +129,10 @@ impl Generator {
         }
         for prescaler in prescalers {
             // Bit 15 is masked: noise on the way must not cost the sums.
-            self.load_with(&[(2, 0x7FFF), (14, prescaler)]);
+            self.load_with(&[
+                (Setting::FaultEnable, all_but(Flag::HallPattern)),
+                (Setting::OffsetPsc, prescaler),
+            ]);
             self.mood = Mood::choose(&mut self.random);
             self.mood.hall = self.random.pick(&[HallMood::Forward, HallMood::Rest]);
             self.mood.early_tick = 1;
@@ -120,7 +150,7 @@ impl Generator {
         if self.left < 80_000 {
             return;
         }
-        self.load_with(&[(14, 7), (15, 65535)]);
+        self.load_with(&[(Setting::OffsetPsc, 7), (Setting::BtsChargeTime, 65535)]);
         self.mood = Mood::calm(&mut self.random);
         self.mood.hall = HallMood::Forward;
         self.go_to(State::BtsCharge, 1000);

@@ -2,9 +2,11 @@
 
 use super::choose_tick::Command;
 use super::mood::Mood;
-use super::{Generator, FAULT_WAIT};
+use super::Generator;
 use crate::record::Record;
+use crate::settings::Setting;
 use crate::state::State;
+use crate::tick::FAULT_WAIT;
 
 impl Generator {
     /// Into FAULT at once, from whatever state the mood has led to.
@@ -31,7 +33,11 @@ impl Generator {
     pub(super) fn retries_to_the_limit(&mut self, variant: u64) {
         let waits = self.left / (FAULT_WAIT + 300);
         let limit = (waits - 1).clamp(1, 3);
-        self.load_with(&[(1, 1), (24, limit as u16), (14, 7)]);
+        self.load_with(&[
+            (Setting::ControlMode, 1),
+            (Setting::RetryLimit, limit as u16),
+            (Setting::OffsetPsc, 7),
+        ]);
         // Offsets are measured, and no low is given since the load.
         self.hold_high(100);
         for wait in 0..=limit {
@@ -71,7 +77,11 @@ impl Generator {
             return;
         }
         for clear_between in [true, false] {
-            self.load_with(&[(1, 1), (24, 1), (14, 7)]);
+            self.load_with(&[
+                (Setting::ControlMode, 1),
+                (Setting::RetryLimit, 1),
+                (Setting::OffsetPsc, 7),
+            ]);
             self.wait_for_retry();
             if clear_between {
                 self.mood.fault_wait = None;
@@ -92,7 +102,7 @@ impl Generator {
 
     /// RetryLimit 0: due, and refused, until a clear comes.
     pub(super) fn retry_refused_at_limit_zero(&mut self) {
-        self.load_with(&[(1, 1), (24, 0)]);
+        self.load_with(&[(Setting::ControlMode, 1), (Setting::RetryLimit, 0)]);
         self.mood = Mood::calm(&mut self.random);
         self.mood.masked_cause = 100;
         self.mood.fault_wait = Some(FAULT_WAIT + 5);
@@ -111,19 +121,23 @@ impl Generator {
             // A live cause stands at the 10,000th tick; a later tick retries.
             // A masked cause may stand at it.
             0 => {
-                self.load_with(&[(1, 1), (24, 2), (2, 3)]);
+                self.load_with(&[
+                    (Setting::ControlMode, 1),
+                    (Setting::RetryLimit, 2),
+                    (Setting::FaultEnable, 3),
+                ]);
                 self.mood.masked_cause = 900;
                 self.mood.fault_wait = Some(2 * FAULT_WAIT);
                 self.mood.fault_standing_when_due = 5;
             }
             // A clear at the very tick at which a retry is due: it wins.
             1 => {
-                self.load_with(&[(1, 1), (24, 100)]);
+                self.load_with(&[(Setting::ControlMode, 1), (Setting::RetryLimit, 100)]);
                 self.mood.fault_wait = Some(FAULT_WAIT - 1);
             }
             // Mode 0 waits for ever, until a clear comes.
             _ => {
-                self.load_with(&[(1, 0), (24, 100)]);
+                self.load_with(&[(Setting::ControlMode, 0), (Setting::RetryLimit, 100)]);
                 self.mood.fault_wait = Some(FAULT_WAIT + 5);
             }
         }
@@ -158,7 +172,7 @@ impl Generator {
         if self.left < 80_000 {
             return;
         }
-        self.load_with(&[(1, 1), (24, 100)]);
+        self.load_with(&[(Setting::ControlMode, 1), (Setting::RetryLimit, 100)]);
         self.trip();
         for _ in 0..65_536 + self.random.between(0, 9) {
             let record = self.standing_tick(false);

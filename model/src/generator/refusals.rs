@@ -1,14 +1,12 @@
 //! Records that will be refused.
 
-use super::choose_settings::REFUSABLE;
 use super::choose_tick::Command;
 use super::Generator;
+use crate::cycle::CYCLE_RULES;
+use crate::fields::{FieldRule, Form};
 use crate::record::Record;
 use crate::state::State;
-
-/// The places of a tick that a record can make bad.  Flx_M, place 8, is not
-/// among them: its two bytes hold 0..65535, which is its whole range.
-const SPOILABLE_TICK_PLACES: [i64; 10] = [1, 2, 3, 4, 5, 6, 7, 9, 10, 11];
+use crate::tick::TICK_RULES;
 
 impl Generator {
     /// A record that will be refused in the present state.  Number 2 at place
@@ -38,61 +36,83 @@ impl Generator {
         let Record::Cycle(mut fields) = self.cycle_record() else {
             unreachable!("a cycle was asked for");
         };
-        let first = self.random.between(1, 3);
-        for place in first..=3 {
+        let first = self.random.between(1, CYCLE_RULES.len() as i64);
+        for (place, (rule, field)) in (1..).zip(CYCLE_RULES.iter().zip(fields.each_mut())) {
             // Fields after the first bad one are bad now and then.
-            if place > first && self.random.chance(700) {
+            if place < first || (place > first && self.random.chance(700)) {
                 continue;
             }
-            let any = self.random.between(8, 255);
-            let any_sample = self.random.between(4096, 65535);
-            match place {
-                1 => fields.pattern = self.random.pick(&[8, 8, 255, any]),
-                _ => {
-                    fields.samples[place as usize - 2] =
-                        self.random.pick(&[4096, 4096, 65535, any_sample]);
-                }
-            }
+            *field = self.bad_cycle_value(rule);
         }
         Record::Cycle(fields)
     }
 
     fn bad_tick(&mut self) -> Record {
         let mut fields = self.mood_tick(Command::Any);
-        let first = self.random.pick(&SPOILABLE_TICK_PLACES);
-        for place in SPOILABLE_TICK_PLACES {
-            if place < first || (place > first && self.random.chance(800)) {
+        // Flx_M is not among them: its two bytes hold its whole range.
+        let breakable = |rule: &FieldRule| rule.can_be_broken();
+        let places: Vec<i64> = (1..)
+            .zip(&TICK_RULES)
+            .filter(|(_, rule)| breakable(rule))
+            .map(|(place, _)| place)
+            .collect();
+        let first = self.random.pick(&places);
+        for (place, (rule, field)) in (1..).zip(TICK_RULES.iter().zip(fields.each_mut())) {
+            if place < first || !breakable(rule) {
                 continue;
             }
-            let any_byte = self.random.between(2, 255);
-            let any_number = self.random.between(4096, 65535);
-            let any_torque = self.random.between(4096, 32767);
-            let bad_byte = self.random.pick(&[2, 2, 255, any_byte]);
-            let bad_number = self.random.pick(&[4096, 4096, 65535, any_number]);
-            let bad_torque = self.random.pick(&[4096, -4096, 32767, -32768, any_torque]);
-            match place {
-                1 => fields.gate_kill = bad_byte,
-                2 => fields.clear = bad_byte,
-                3 => fields.command = bad_byte,
-                4 => fields.control = bad_number,
-                5 => fields.vdc_raw = bad_number,
-                6 => fields.vdc_filt = bad_number,
-                7 => fields.temperature = bad_number,
-                9 => fields.trq_ref = bad_torque,
-                10 => fields.speed = -32768,
-                _ => fields.target = -32768,
+            if place > first && self.random.chance(800) {
+                continue;
             }
+            *field = self.bad_tick_value(rule);
         }
         Record::Tick(fields)
+    }
+
+    /// Draws for every form of field, whichever this one has: streams of a
+    /// seed are stored, so a field has to cost the same number of draws.
+    fn bad_cycle_value(&mut self, rule: &FieldRule) -> i64 {
+        let [any_byte, any_number] = self.beyond(rule);
+        let any = if rule.form == Form::Byte {
+            any_byte
+        } else {
+            any_number
+        };
+        let (nearest, furthest) = (rule.most + 1, rule.form.ends().1);
+        self.random.pick(&[nearest, nearest, furthest, any])
+    }
+
+    fn bad_tick_value(&mut self, rule: &FieldRule) -> i64 {
+        let [any_byte, any_number, any_signed] = self.beyond(rule);
+        let (lowest, highest) = rule.form.ends();
+        let (above, below) = (rule.most + 1, rule.least - 1);
+        let random = &mut self.random;
+        let byte = random.pick(&[above, above, highest, any_byte]);
+        let number = random.pick(&[above, above, highest, any_number]);
+        let signed = random.pick(&[above, below, highest, lowest, any_signed]);
+        match rule.form {
+            Form::Byte => byte,
+            Form::Number => number,
+            Form::Signed if above <= highest => signed,
+            // Only -32768 lies beyond.
+            Form::Signed => below,
+        }
+    }
+
+    /// Numbers above the range of a field, where its bytes hold any.
+    fn beyond<const DRAWS: usize>(&mut self, rule: &FieldRule) -> [i64; DRAWS] {
+        let highest = rule.form.ends().1;
+        let nearest = (rule.most + 1).min(highest);
+        std::array::from_fn(|_| self.random.between(nearest, highest))
     }
 
     /// Bad settings; outside IDLE and STOP good ones are refused as well.
     fn refused_load(&mut self) -> Record {
         let loadable = matches!(self.drive.state, State::Idle | State::Stop);
         if !loadable && self.random.chance(500) {
-            return Record::Load(self.good_settings());
+            return Record::Load(self.good_settings().0);
         }
-        let place = self.random.pick(&REFUSABLE);
-        Record::Load(self.bad_settings(place))
+        let setting = self.refusable_setting();
+        Record::Load(self.bad_settings(setting).0)
     }
 }

@@ -2,8 +2,11 @@
 
 use super::choose_tick::Command;
 use super::mood::Mood;
-use super::Generator;
+use super::{all_but, Generator};
+use crate::causes::GOOD_FLUX;
+use crate::flag::Flag;
 use crate::record::Record;
+use crate::settings::Setting;
 use crate::state::State;
 
 impl Generator {
@@ -11,8 +14,13 @@ impl Generator {
     /// earlier stay has counted is forgotten.
     pub(super) fn flux_slots(&mut self) {
         for flux_fault_time in [1, 2, 3, 4, 5, 7, 13108] {
-            let fault_enable = self.random.pick(&[65535, 65535, 0xFFEF]);
-            let given = [(2, fault_enable), (8, flux_fault_time), (16, 0), (18, 1)];
+            let fault_enable = self.random.pick(&[65535, 65535, all_but(Flag::Flux)]);
+            let given = [
+                (Setting::FaultEnable, fault_enable),
+                (Setting::FluxFaultTime, flux_fault_time),
+                (Setting::TCatchSpin, 0),
+                (Setting::IsPulses, 1),
+            ];
             self.load_with(&given);
             self.mood = Mood::calm(&mut self.random);
             self.go_to(State::MotorRun, 1000);
@@ -54,12 +62,14 @@ impl Generator {
     }
 
     fn flux_ticks(&mut self, count: i64, bad: bool) {
+        let (least, most) = (*GOOD_FLUX.start(), *GOOD_FLUX.end());
         for _ in 0..count {
             let mut fields = self.quiet_tick(Command::NotLow);
             fields.flx_m = if bad {
-                self.random.pick(&[0, 511, 511, 8193, 8193, 65535])
+                self.random
+                    .pick(&[0, least - 1, least - 1, most + 1, most + 1, 65535])
             } else {
-                self.random.leaning(512, 8192)
+                self.random.leaning(least, most)
             };
             self.emit(Record::Tick(fields));
         }

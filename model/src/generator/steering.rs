@@ -2,9 +2,12 @@
 
 use super::choose_cycle::Wish;
 use super::choose_tick::Command;
-use super::{Generator, FAULT_WAIT};
+use super::Generator;
+use crate::flag::Flag;
 use crate::record::Record;
+use crate::settings::Setting;
 use crate::state::State;
+use crate::tick::FAULT_WAIT;
 
 impl Generator {
     /// One record as mood and state have it.
@@ -39,13 +42,13 @@ impl Generator {
 
     /// A record that will be accepted, and mostly carries the drive on.
     fn useful_record(&mut self) -> Record {
-        let settings = self.drive.settings.clone();
+        let settings = self.drive.settings;
         match self.drive.state {
-            State::Idle => Record::Load(self.good_settings()),
+            State::Idle => Record::Load(self.good_settings().0),
             State::Stop => self.record_in_stop(),
             State::OffsetCal => self.record_awaiting_cycles(settings.offset_cycles()),
-            State::BtsCharge => self.record_awaiting_cycles(settings.bts_charge_time),
-            State::AngleSensing => self.record_awaiting_cycles(6 * settings.is_pulses),
+            State::BtsCharge => self.record_awaiting_cycles(settings[Setting::BtsChargeTime]),
+            State::AngleSensing => self.record_awaiting_cycles(6 * settings[Setting::IsPulses]),
             State::CatchSpin | State::Parking | State::OpenLoop | State::MotorRun => {
                 if self.random.chance(self.mood.cycle) {
                     self.cycle_record()
@@ -102,7 +105,7 @@ impl Generator {
     /// In FAULT the plan made at its entry is followed.
     fn record_in_fault(&mut self) -> Record {
         let dead_cause =
-            self.drive.dead_streak == 2 && self.drive.settings.live_bits() & (1 << 15) != 0;
+            self.drive.dead_streak == 2 && Flag::HallPattern.is_in(self.drive.settings.live_bits());
         if self.mood.fault_standing > 0 {
             self.mood.fault_standing -= 1;
             return self.standing_tick(dead_cause);
@@ -190,8 +193,8 @@ impl Generator {
             let wanted = match self.drive.state {
                 State::Fault => return,
                 State::OffsetCal => settings.offset_cycles(),
-                State::BtsCharge => settings.bts_charge_time,
-                State::AngleSensing => 6 * settings.is_pulses,
+                State::BtsCharge => settings[Setting::BtsChargeTime],
+                State::AngleSensing => 6 * settings[Setting::IsPulses],
                 _ => 0,
             };
             let record = if self.drive.cycles_in_state < wanted {
@@ -203,14 +206,13 @@ impl Generator {
         }
     }
 
-    /// Loads good settings in which some numbers are given: place (from 1)
-    /// and value.
-    pub(super) fn load_with(&mut self, given: &[(usize, u16)]) {
+    /// Loads good settings in which some are given.
+    pub(super) fn load_with(&mut self, given: &[(Setting, u16)]) {
         self.go_to_stop();
         let mut settings = self.good_settings();
-        for &(place, value) in given {
-            settings[place - 1] = value;
+        for &(setting, value) in given {
+            settings[setting] = value;
         }
-        self.emit(Record::Load(settings));
+        self.emit(Record::Load(settings.0));
     }
 }

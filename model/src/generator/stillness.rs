@@ -3,8 +3,11 @@
 use super::choose_cycle::Wish;
 use super::choose_tick::Command;
 use super::mood::{HallMood, Mood};
-use super::Generator;
+use super::{all_but, Generator};
+use crate::causes::FULL_STILL_COUNT;
+use crate::flag::Flag;
 use crate::record::Record;
+use crate::settings::Setting;
 use crate::state::State;
 
 impl Generator {
@@ -32,7 +35,12 @@ impl Generator {
     /// Into MOTORRUN with the shaft at rest; gives the ticks of a time-out.
     fn rest_in_motor_run(&mut self, fault_enable: u16, hall: HallMood) -> i64 {
         let period = self.random.between(1, 3) as u16;
-        self.load_with(&[(2, fault_enable), (9, period), (16, 0), (18, 1)]);
+        self.load_with(&[
+            (Setting::FaultEnable, fault_enable),
+            (Setting::HallTimeoutPeriod, period),
+            (Setting::TCatchSpin, 0),
+            (Setting::IsPulses, 1),
+        ]);
         self.mood = Mood::calm(&mut self.random);
         self.mood.hall = hall;
         self.go_to(State::MotorRun, 1000);
@@ -41,14 +49,19 @@ impl Generator {
 
     /// Bit 14 masked: the cause stands and nothing happens.
     fn masked_time_out(&mut self) {
-        let needed = self.rest_in_motor_run(0xBFFF, HallMood::Rest);
+        let needed = self.rest_in_motor_run(all_but(Flag::HallTimeOut), HallMood::Rest);
         self.rest_until_still();
         self.motor_run_ticks(needed + 5);
     }
 
     /// 10 x 6554 ticks, which leaves 4 in sixteen bits: far from a time-out.
     fn long_time_out(&mut self) {
-        self.load_with(&[(2, 65535), (9, 6554), (16, 0), (18, 1)]);
+        self.load_with(&[
+            (Setting::FaultEnable, 65535),
+            (Setting::HallTimeoutPeriod, 6554),
+            (Setting::TCatchSpin, 0),
+            (Setting::IsPulses, 1),
+        ]);
         self.mood = Mood::calm(&mut self.random);
         self.go_to(State::MotorRun, 1000);
         self.rest_until_still();
@@ -85,9 +98,9 @@ impl Generator {
     /// Dead samples only, bit 15 masked: the load has zeroed a full count, and
     /// it grows again with none kept.  A first pattern then ends the run.
     fn time_out_of_dead_samples(&mut self) {
-        let needed = self.rest_in_motor_run(0x7FFF, HallMood::Dead);
+        let needed = self.rest_in_motor_run(all_but(Flag::HallPattern), HallMood::Dead);
         self.dead_ticks(needed + 2);
-        while self.drive.still_count < 4096 && self.left > 0 {
+        while self.drive.still_count < FULL_STILL_COUNT && self.left > 0 {
             let record = self.wished_cycle(Wish::Dead);
             self.emit(record);
         }
@@ -104,7 +117,7 @@ impl Generator {
     /// with a dead or a stray sample now and then.
     fn rest_until_still(&mut self) {
         for _ in 0..4200 {
-            if self.drive.still_count == 4096 && self.random.chance(300) {
+            if self.drive.still_count == FULL_STILL_COUNT && self.random.chance(300) {
                 return;
             }
             let wish = match self.random.between(0, 399) {

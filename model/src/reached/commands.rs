@@ -1,30 +1,31 @@
 //! Arming, starts and stops.
 
-use super::{states_but_idle, LastExit, Reached, Seen};
+use super::{add_all, states_but_idle, LastExit, Reached, Seen};
+use crate::settings::Setting;
 use crate::state::State;
 use crate::tick::TickFields;
 
-const NAMES: [&str; 14] = [
-    "start in mode 0",
-    "start in mode 1",
-    "start after a low since the last exit by clear",
-    "start after a low since the last exit by retry",
-    "start after a retry, no low since",
-    "start after a retry, no low since the load",
-    "high not taken in STOP, no low since the load",
-    "high not taken in STOP, no low since the clear",
-    "armed in STOP, neither low nor high",
-    "low in FAULT does not arm",
-    "low at the tick that enters FAULT, disarmed",
-    "live flag wins over a low in a starting or running state",
-    "neither low nor high keeps a starting or running state",
-    "clear outside FAULT leaves flags standing",
-];
+counted_names! {
+    Name {
+        StartInMode0 => "start in mode 0",
+        StartInMode1 => "start in mode 1",
+        StartAfterLowSinceClear => "start after a low since the last exit by clear",
+        StartAfterLowSinceRetry => "start after a low since the last exit by retry",
+        StartAfterRetryWithoutLow => "start after a retry, no low since",
+        StartAfterRetryWithoutLowSinceLoad => "start after a retry, no low since the load",
+        HighNotTakenSinceLoad => "high not taken in STOP, no low since the load",
+        HighNotTakenSinceClear => "high not taken in STOP, no low since the clear",
+        ArmedBetweenLowAndHigh => "armed in STOP, neither low nor high",
+        LowInFaultDoesNotArm => "low in FAULT does not arm",
+        LowAtEntryToFaultDisarmed => "low at the tick that enters FAULT, disarmed",
+        LiveFlagWinsOverLow => "live flag wins over a low in a starting or running state",
+        BetweenLowAndHighKeepsState => "neither low nor high keeps a starting or running state",
+        ClearOutsideFault => "clear outside FAULT leaves flags standing",
+    }
+}
 
 pub fn add_to_list(list: &mut Vec<String>) {
-    for name in NAMES {
-        list.push(name.to_string());
-    }
+    add_all(list, Name::ALL);
     for state in states_but_idle() {
         if state != State::Fault {
             list.push(arms_name(state));
@@ -49,23 +50,26 @@ impl Reached {
             self.observe_waiting(seen, high);
         }
         if low && before.state != State::Fault && !before.armed && after.armed {
-            self.count(&arms_name(before.state));
+            self.count(arms_name(before.state));
         }
         self.count_if(
             low && before.state == State::Fault && !after.armed,
-            NAMES[9],
+            Name::LowInFaultDoesNotArm,
         );
-        self.count_if(low && entered_fault && !after.armed, NAMES[10]);
+        self.count_if(
+            low && entered_fault && !after.armed,
+            Name::LowAtEntryToFaultDisarmed,
+        );
         let running = before.state.is_starting_or_running();
-        self.count_if(low && entered_fault && running, NAMES[11]);
+        self.count_if(low && entered_fault && running, Name::LiveFlagWinsOverLow);
         self.count_if(
             !low && !high && running && after.state.is_starting_or_running(),
-            NAMES[12],
+            Name::BetweenLowAndHighKeepsState,
         );
         let outside_fault = before.state != State::Fault;
         self.count_if(
             outside_fault && fields.clear == 1 && before.flags != 0,
-            NAMES[13],
+            Name::ClearOutsideFault,
         );
         // The exit tick itself was dealt with before; a low in it does not
         // count as one since the exit.
@@ -76,17 +80,18 @@ impl Reached {
     }
 
     fn observe_start(&mut self, seen: &Seen) {
-        let mode = seen.before.settings.control_mode as usize;
-        self.count(NAMES[mode]);
+        let mode_1 = seen.before.settings[Setting::ControlMode] == 1;
+        self.count_if(!mode_1, Name::StartInMode0);
+        self.count_if(mode_1, Name::StartInMode1);
         let low = self.watch.low_since_exit;
         let low_since_load = self.watch.low_since_load;
         match self.watch.last_exit {
             LastExit::NoneSinceLoad => {}
-            LastExit::Clear => self.count_if(low, NAMES[2]),
+            LastExit::Clear => self.count_if(low, Name::StartAfterLowSinceClear),
             LastExit::Retry => {
-                self.count_if(low, NAMES[3]);
-                self.count_if(!low, NAMES[4]);
-                self.count_if(!low_since_load, NAMES[5]);
+                self.count_if(low, Name::StartAfterLowSinceRetry);
+                self.count_if(!low, Name::StartAfterRetryWithoutLow);
+                self.count_if(!low_since_load, Name::StartAfterRetryWithoutLowSinceLoad);
             }
         }
     }
@@ -95,8 +100,11 @@ impl Reached {
         let armed = seen.before.armed;
         let cleared = self.watch.last_exit == LastExit::Clear;
         let loaded = self.watch.last_exit == LastExit::NoneSinceLoad;
-        self.count_if(high && !armed && loaded, NAMES[6]);
-        self.count_if(high && !armed && cleared, NAMES[7]);
-        self.count_if(armed && seen.after.armed && !high, NAMES[8]);
+        self.count_if(high && !armed && loaded, Name::HighNotTakenSinceLoad);
+        self.count_if(high && !armed && cleared, Name::HighNotTakenSinceClear);
+        self.count_if(
+            armed && seen.after.armed && !high,
+            Name::ArmedBetweenLowAndHigh,
+        );
     }
 }

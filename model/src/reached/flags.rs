@@ -1,38 +1,45 @@
 //! Flags raised, that is set where they were not set before.
 
 use super::{states_but_idle, Reached, Seen};
+use crate::flag::Flag;
 use crate::record::Record;
 use crate::state::State;
 
 pub fn add_to_list(list: &mut Vec<String>) {
     for state in states_but_idle() {
-        for bit in [0, 1, 2, 3, 6] {
-            list.push(name(bit, "tick", true, state));
+        for flag in Flag::OF_ONE_TICK {
+            list.push(name(flag, "tick", true, state));
         }
-        for bit in [2, 3, 6] {
-            list.push(name(bit, "tick", false, state));
+        let maskable = Flag::OF_ONE_TICK.into_iter();
+        for flag in maskable.filter(|flag| flag.can_be_masked()) {
+            list.push(name(flag, "tick", false, state));
         }
         for way in ["dead samples", "stray samples"] {
-            list.push(name(15, way, true, state));
-            list.push(name(15, way, false, state));
+            list.push(name(Flag::HallPattern, way, true, state));
+            list.push(name(Flag::HallPattern, way, false, state));
         }
     }
-    for bit in [4, 7, 14] {
+    for flag in Flag::COUNTED {
         for live in [true, false] {
-            list.push(name(bit, "tick", live, State::MotorRun));
+            list.push(name(flag, "tick", live, State::MotorRun));
         }
     }
     // A tick raises flag 15 only after an exit from FAULT has cleared it while
     // the streak stood, which takes a mask.
-    list.push(name(15, "tick", false, State::Stop));
-    for bit in [0, 1, 2, 3, 4, 6, 7, 14, 15] {
-        list.push(format!("flag {bit} set"));
+    list.push(name(Flag::HallPattern, "tick", false, State::Stop));
+    for flag in Flag::ALL {
+        list.push(set_name(flag));
     }
 }
 
-fn name(bit: i64, way: &str, live: bool, state: State) -> String {
+fn set_name(flag: Flag) -> String {
+    format!("flag {} set", flag.number())
+}
+
+fn name(flag: Flag, way: &str, live: bool, state: State) -> String {
+    let (flag, state) = (flag.number(), state.name());
     let live = if live { "live" } else { "masked" };
-    format!("flag {bit} raised by {way}, {live}, in {}", state.name())
+    format!("flag {flag} raised by {way}, {live}, in {state}")
 }
 
 impl Reached {
@@ -47,12 +54,10 @@ impl Reached {
             Record::Cycle(fields) if matches!(fields.pattern, 0 | 7) => "dead samples",
             Record::Cycle(_) => "stray samples",
         };
-        for bit in 0..16 {
-            if raised & (1 << bit) != 0 {
-                let live = seen.before.settings.live_bits() & (1 << bit) != 0;
-                self.count(&format!("flag {bit} set"));
-                self.count(&name(bit, way, live, seen.before.state));
-            }
+        for flag in Flag::ALL.into_iter().filter(|flag| flag.is_in(raised)) {
+            let live = flag.is_in(seen.before.settings.live_bits());
+            self.count(set_name(flag));
+            self.count(name(flag, way, live, seen.before.state));
         }
     }
 }

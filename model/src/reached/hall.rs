@@ -1,34 +1,38 @@
 //! Hall groups, position, angle, still count and offsets.
 
-use super::{states_but_idle, Reached, Seen};
+use super::{add_all, states_but_idle, Reached, Seen};
+use crate::causes::FULL_STILL_COUNT;
 use crate::cycle::CycleFields;
 use crate::hall::{boundary_angle, group, middle_angle, next_pattern, previous_pattern};
 use crate::hall::{Group, CLOCKWISE};
+use crate::settings::Setting;
 use crate::state::State;
 
 /// Steps in one run that make it a long one.
 const LONG_RUN: u64 = 100;
 
-const NAMES: [&str; 18] = [
-    "hall dead sample with none kept",
-    "hall second dead sample forgets the pattern",
-    "hall dead streak stays at 2",
-    "hall third stray sample forgets the pattern",
-    "hall run of 100 steps forward",
-    "hall run of 100 steps backward",
-    "position wraps FFFFFFFF -> 0",
-    "position wraps 0 -> FFFFFFFF",
-    "angle plus offset wraps above 32767",
-    "angle plus offset wraps below -32768",
-    "still count reaches 4096",
-    "still count stays at 4096",
-    "still count grows with none kept",
-    "still count 4096 ended by a newly kept pattern",
-    "offsets: cycle beyond N in OFFSETCAL",
-    "offsets: OFFSETCAL left by a trip after samples were added",
-    "offsets: rounded down",
-    "cycle count full at 65535 (long)",
-];
+counted_names! {
+    Name {
+        DeadWithNoneKept => "hall dead sample with none kept",
+        SecondDeadForgets => "hall second dead sample forgets the pattern",
+        DeadStreakStays => "hall dead streak stays at 2",
+        ThirdStrayForgets => "hall third stray sample forgets the pattern",
+        LongRunForward => "hall run of 100 steps forward",
+        LongRunBackward => "hall run of 100 steps backward",
+        PositionWrapsUp => "position wraps FFFFFFFF -> 0",
+        PositionWrapsDown => "position wraps 0 -> FFFFFFFF",
+        AngleWrapsAbove => "angle plus offset wraps above 32767",
+        AngleWrapsBelow => "angle plus offset wraps below -32768",
+        StillCountFull => "still count reaches 4096",
+        StillCountStaysFull => "still count stays at 4096",
+        StillCountWithNoneKept => "still count grows with none kept",
+        StillCountEnded => "still count 4096 ended by a newly kept pattern",
+        CycleBeyondN => "offsets: cycle beyond N in OFFSETCAL",
+        OffsetCalLeftByTrip => "offsets: OFFSETCAL left by a trip after samples were added",
+        OffsetsRoundedDown => "offsets: rounded down",
+        CycleCountFull => "cycle count full at 65535 (long)",
+    }
+}
 
 pub fn add_to_list(list: &mut Vec<String>) {
     for pattern in [0, 7] {
@@ -54,9 +58,7 @@ pub fn add_to_list(list: &mut Vec<String>) {
     for prescaler in 0..=7 {
         list.push(format!("offsets: measured with OffsetPsc {prescaler}"));
     }
-    for name in NAMES {
-        list.push(name.to_string());
-    }
+    add_all(list, Name::ALL);
 }
 
 fn pair_name(group: Group, kept: i64, pattern: i64) -> String {
@@ -68,34 +70,37 @@ impl Reached {
         let (before, after) = (seen.before, seen.after);
         let pattern = fields.pattern;
         let group = group(pattern, before.kept_pattern);
-        self.count(&format!("cycle in {}", before.state.name()));
+        self.count(format!("cycle in {}", before.state.name()));
         match (group, before.kept_pattern) {
-            (Group::Dead, _) => self.count(&format!("hall dead {pattern}")),
-            (_, None) => self.count(&format!("hall first {pattern}")),
-            (_, Some(kept)) => self.count(&pair_name(group, kept, pattern)),
+            (Group::Dead, _) => self.count(format!("hall dead {pattern}")),
+            (_, None) => self.count(format!("hall first {pattern}")),
+            (_, Some(kept)) => self.count(pair_name(group, kept, pattern)),
         }
         let none_kept = before.kept_pattern.is_none();
         if group == Group::Dead {
-            self.count_if(none_kept, NAMES[0]);
-            self.count_if(!none_kept && after.kept_pattern.is_none(), NAMES[1]);
-            self.count_if(before.dead_streak == 2, NAMES[2]);
+            self.count_if(none_kept, Name::DeadWithNoneKept);
+            self.count_if(
+                !none_kept && after.kept_pattern.is_none(),
+                Name::SecondDeadForgets,
+            );
+            self.count_if(before.dead_streak == 2, Name::DeadStreakStays);
         } else if before.dead_streak > 0 {
             let streak = before.dead_streak;
-            self.count(&format!("hall dead streak of {streak} ended by {group:?}"));
+            self.count(format!("hall dead streak of {streak} ended by {group:?}"));
         }
         if group == Group::Stray {
-            self.count_if(before.stray_streak == 2, NAMES[3]);
+            self.count_if(before.stray_streak == 2, Name::ThirdStrayForgets);
         } else if before.stray_streak == 2 {
-            self.count(&format!("hall stray streak of 2 ended by {group:?}"));
+            self.count(format!("hall stray streak of 2 ended by {group:?}"));
         }
         self.observe_steps(seen, group, pattern);
         self.observe_still_count(seen, none_kept);
         let added = before.settings.offset_cycles();
         self.count_if(
             before.state == State::OffsetCal && before.cycles_in_state >= added,
-            NAMES[14],
+            Name::CycleBeyondN,
         );
-        self.count_if(before.cycles_in_state == 65535, NAMES[17]);
+        self.count_if(before.cycles_in_state == 65535, Name::CycleCountFull);
     }
 
     fn observe_steps(&mut self, seen: &Seen, group: Group, pattern: i64) {
@@ -113,10 +118,16 @@ impl Reached {
         };
         let long_forward = watch.steps_forward == LONG_RUN;
         let long_backward = watch.steps_backward == LONG_RUN;
-        self.count_if(long_forward, NAMES[4]);
-        self.count_if(long_backward, NAMES[5]);
-        self.count_if(group == Group::Next && after.position == 0, NAMES[6]);
-        self.count_if(group == Group::Previous && before.position == 0, NAMES[7]);
+        self.count_if(long_forward, Name::LongRunForward);
+        self.count_if(long_backward, Name::LongRunBackward);
+        self.count_if(
+            group == Group::Next && after.position == 0,
+            Name::PositionWrapsUp,
+        );
+        self.count_if(
+            group == Group::Previous && before.position == 0,
+            Name::PositionWrapsDown,
+        );
         let angle = match (group, before.kept_pattern) {
             (Group::First, _) => middle_angle(pattern),
             (Group::Next, Some(kept)) => boundary_angle(kept, next_pattern(kept)),
@@ -124,17 +135,26 @@ impl Reached {
             _ => return,
         };
         self.watch.newly_kept_since_tick = true;
-        let sum = angle + before.settings.hall_angle_offset;
-        self.count_if(sum > 32767, NAMES[8]);
-        self.count_if(sum < -32768, NAMES[9]);
+        let sum = angle + before.settings[Setting::HallAngleOffset];
+        self.count_if(sum > 32767, Name::AngleWrapsAbove);
+        self.count_if(sum < -32768, Name::AngleWrapsBelow);
     }
 
     fn observe_still_count(&mut self, seen: &Seen, none_kept: bool) {
         let (before, after) = (seen.before.still_count, seen.after.still_count);
-        self.count_if(before < 4096 && after == 4096, NAMES[10]);
-        self.count_if(before == 4096 && after == 4096, NAMES[11]);
-        self.count_if(none_kept && after > before, NAMES[12]);
-        self.count_if(before == 4096 && after == 0, NAMES[13]);
+        self.count_if(
+            before < FULL_STILL_COUNT && after == FULL_STILL_COUNT,
+            Name::StillCountFull,
+        );
+        self.count_if(
+            before == FULL_STILL_COUNT && after == FULL_STILL_COUNT,
+            Name::StillCountStaysFull,
+        );
+        self.count_if(none_kept && after > before, Name::StillCountWithNoneKept);
+        self.count_if(
+            before == FULL_STILL_COUNT && after == 0,
+            Name::StillCountEnded,
+        );
     }
 
     /// At a tick: what became of OFFSETCAL.
@@ -144,12 +164,18 @@ impl Reached {
             return;
         }
         let added = before.cycles_in_state > 0;
-        self.count_if(seen.after.state == State::Fault && added, NAMES[15]);
+        self.count_if(
+            seen.after.state == State::Fault && added,
+            Name::OffsetCalLeftByTrip,
+        );
         if seen.after.state == State::Stop {
-            let prescaler = before.settings.offset_psc;
-            self.count(&format!("offsets: measured with OffsetPsc {prescaler}"));
+            let prescaler = before.settings[Setting::OffsetPsc];
+            self.count(format!("offsets: measured with OffsetPsc {prescaler}"));
             let cycles = before.settings.offset_cycles();
-            self.count_if(before.offset_sums[0] % cycles != 0, NAMES[16]);
+            self.count_if(
+                before.offset_sums.first % cycles != 0,
+                Name::OffsetsRoundedDown,
+            );
         }
     }
 }

@@ -1,7 +1,10 @@
 //! States, moves and gates.
 
-use super::{states_but_idle, Reached, Seen};
+use super::{add_all, states_but_idle, Reached, Seen};
+use crate::drive::Gate;
+use crate::flag::Flag;
 use crate::record::Record;
+use crate::settings::Setting;
 use crate::state::{State, ALL_STATES};
 
 /// The moves that a tick may make, all but those to FAULT and those of a low.
@@ -19,19 +22,21 @@ const MOVES: [(State, State); 11] = [
     (State::Fault, State::Stop),
 ];
 
-const WAYS: [&str; 11] = [
-    "way on: BTSCHARGE left with BtsChargeTime 0",
-    "way on: BTSCHARGE left with more cycles than BtsChargeTime",
-    "way on: CATCHSPIN left with TCatchSpin 0",
-    "way on: CATCHSPIN left with TCatchSpin 1",
-    "way on: CATCHSPIN left with TCatchSpin 2 or more",
-    "way on: PARKING left with ParkTime 0",
-    "way on: PARKING left with ParkTime 1",
-    "way on: PARKING left with ParkTime 2 or more",
-    "way on: OPENLOOP left by OpenLoopRamp 0 below MinSpd",
-    "way on: OPENLOOP left by speed",
-    "way on: OPENLOOP left with MinSpd 0",
-];
+counted_names! {
+    Way {
+        ChargeTimeZero => "way on: BTSCHARGE left with BtsChargeTime 0",
+        ChargedLonger => "way on: BTSCHARGE left with more cycles than BtsChargeTime",
+        CatchSpinZero => "way on: CATCHSPIN left with TCatchSpin 0",
+        CatchSpinOne => "way on: CATCHSPIN left with TCatchSpin 1",
+        CatchSpinMore => "way on: CATCHSPIN left with TCatchSpin 2 or more",
+        ParkTimeZero => "way on: PARKING left with ParkTime 0",
+        ParkTimeOne => "way on: PARKING left with ParkTime 1",
+        ParkTimeMore => "way on: PARKING left with ParkTime 2 or more",
+        OpenLoopRampZero => "way on: OPENLOOP left by OpenLoopRamp 0 below MinSpd",
+        OpenLoopBySpeed => "way on: OPENLOOP left by speed",
+        OpenLoopMinSpdZero => "way on: OPENLOOP left with MinSpd 0",
+    }
+}
 
 pub fn add_to_list(list: &mut Vec<String>) {
     for state in ALL_STATES {
@@ -53,18 +58,16 @@ pub fn add_to_list(list: &mut Vec<String>) {
             list.push(move_name(state, State::Stop));
         }
     }
-    for way in WAYS {
-        list.push(way.to_string());
-    }
+    add_all(list, Way::ALL);
     for state in ALL_STATES {
         // Off: at rest, or through a flag that a cycle has set.
-        list.push(gate_name(0, state));
+        list.push(gate_name(Gate::Off, state));
         match state {
-            State::BtsCharge => list.push(gate_name(1, state)),
+            State::BtsCharge => list.push(gate_name(Gate::Charge, state)),
             // Bit 1 is set by a tick, which moves to FAULT at once.
-            State::Fault => list.push(gate_name(3, state)),
+            State::Fault => list.push(gate_name(Gate::Brake, state)),
             State::Idle | State::Stop | State::OffsetCal => {}
-            _ => list.push(gate_name(2, state)),
+            _ => list.push(gate_name(Gate::Drive, state)),
         }
     }
     list.push("gate 0 with bits 0 and 1 live".to_string());
@@ -79,22 +82,24 @@ fn stay_name(state: State) -> String {
     format!("move none in {}", state.name())
 }
 
-fn gate_name(gate: u8, state: State) -> String {
-    format!("gate {gate} in {}", state.name())
+fn gate_name(gate: Gate, state: State) -> String {
+    format!("gate {} in {}", gate as u8, state.name())
 }
 
 impl Reached {
     pub(super) fn observe_moves(&mut self, seen: &Seen) {
         let (before, after) = (seen.before, seen.after);
-        self.count(&format!("state {}", after.state.name()));
-        self.count(&gate_name(seen.answer.gate, after.state));
-        let live = seen.answer.live_word;
+        self.count(format!("state {}", after.state.name()));
+        let gate = after.gate();
+        self.count(gate_name(gate, after.state));
+        let live = after.live_word();
+        let both = |word| Flag::GateKill.is_in(word) && Flag::CriticalOverVoltage.is_in(word);
         self.count_if(
-            seen.answer.gate == 0 && live & 3 == 3,
+            gate == Gate::Off && both(live),
             "gate 0 with bits 0 and 1 live",
         );
         self.count_if(
-            seen.answer.gate == 3 && live != 2,
+            gate == Gate::Brake && live != Flag::CriticalOverVoltage.bit(),
             "gate 3 with bit 1 and others live",
         );
         if seen.answer.number != 0 {
@@ -103,7 +108,7 @@ impl Reached {
         match seen.record {
             Record::Load(_) => {
                 let from = before.state.name();
-                self.count(&format!("move by load {from} -> STOP"));
+                self.count(format!("move by load {from} -> STOP"));
                 self.count_if(
                     before.live_word() != 0,
                     "move by load STOP -> STOP with a live flag standing",
@@ -111,9 +116,9 @@ impl Reached {
             }
             Record::Tick(fields) => {
                 if before.state == after.state {
-                    self.count(&stay_name(before.state));
+                    self.count(stay_name(before.state));
                 } else {
-                    self.count(&move_name(before.state, after.state));
+                    self.count(move_name(before.state, after.state));
                     self.observe_way(seen, fields.speed.abs());
                 }
             }
@@ -128,19 +133,33 @@ impl Reached {
         }
         match seen.before.state {
             State::BtsCharge => {
-                let wanted = settings.bts_charge_time;
-                self.count_if(wanted == 0, WAYS[0]);
-                self.count_if(seen.before.cycles_in_state > wanted, WAYS[1]);
+                let wanted = settings[Setting::BtsChargeTime];
+                self.count_if(wanted == 0, Way::ChargeTimeZero);
+                self.count_if(seen.before.cycles_in_state > wanted, Way::ChargedLonger);
             }
-            State::CatchSpin => self.count(WAYS[2 + settings.t_catch_spin.min(2) as usize]),
-            State::Parking => self.count(WAYS[5 + settings.park_time.min(2) as usize]),
+            State::CatchSpin => self.count(match settings[Setting::TCatchSpin] {
+                0 => Way::CatchSpinZero,
+                1 => Way::CatchSpinOne,
+                _ => Way::CatchSpinMore,
+            }),
+            State::Parking => self.count(match settings[Setting::ParkTime] {
+                0 => Way::ParkTimeZero,
+                1 => Way::ParkTimeOne,
+                _ => Way::ParkTimeMore,
+            }),
             State::OpenLoop => {
-                let fast = speed >= settings.min_spd;
-                self.count_if(settings.open_loop_ramp == 0 && !fast, WAYS[8]);
-                self.count_if(settings.open_loop_ramp != 0 && fast, WAYS[9]);
+                let fast = speed >= settings[Setting::MinSpd];
                 self.count_if(
-                    settings.open_loop_ramp != 0 && settings.min_spd == 0,
-                    WAYS[10],
+                    settings[Setting::OpenLoopRamp] == 0 && !fast,
+                    Way::OpenLoopRampZero,
+                );
+                self.count_if(
+                    settings[Setting::OpenLoopRamp] != 0 && fast,
+                    Way::OpenLoopBySpeed,
+                );
+                self.count_if(
+                    settings[Setting::OpenLoopRamp] != 0 && settings[Setting::MinSpd] == 0,
+                    Way::OpenLoopMinSpdZero,
                 );
             }
             _ => {}

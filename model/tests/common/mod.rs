@@ -1,7 +1,9 @@
 //! Drives and fields that the tests start from.
-#![allow(dead_code)] // every test file uses its own part of this one
+#![allow(dead_code, unused_imports)] // every test file uses its own part of this one
 
-use model::{Answer, CycleFields, Drive, Reply, State, TickFields};
+use model::settings::PerSetting;
+pub use model::settings::Setting::{self, *};
+use model::{Answer, CycleFields, Drive, Pair, Reply, State, TickFields};
 
 /// The settings of the example of document 01.
 pub const EXAMPLE: [u16; 24] = [
@@ -9,17 +11,17 @@ pub const EXAMPLE: [u16; 24] = [
     300, 4096, 2,
 ];
 
-/// The example's settings with some changed: place from 1, and value.
-pub fn settings_with(changes: &[(usize, u16)]) -> [u16; 24] {
-    let mut settings = EXAMPLE;
-    for &(place, value) in changes {
-        settings[place - 1] = value;
+/// The example's settings with some changed.
+pub fn settings_with(changes: &[(Setting, u16)]) -> [u16; 24] {
+    let mut settings = PerSetting(EXAMPLE);
+    for &(setting, value) in changes {
+        settings[setting] = value;
     }
-    settings
+    settings.0
 }
 
 /// A drive after an accepted load.
-pub fn loaded(changes: &[(usize, u16)]) -> Drive {
+pub fn loaded(changes: &[(Setting, u16)]) -> Drive {
     let reply = Drive::power_up().load(&settings_with(changes));
     assert_eq!((reply.answer.number, reply.answer.place), (0, 0));
     reply.drive
@@ -64,10 +66,15 @@ pub fn kill() -> TickFields {
     }
 }
 
+/// Of the first and the second sample.
+pub fn pair<T>(first: T, second: T) -> Pair<T> {
+    Pair { first, second }
+}
+
 pub fn cycle(drive: &Drive, pattern: i64) -> Drive {
     accepted(drive.cycle(&CycleFields {
         pattern,
-        samples: [0, 0],
+        samples: pair(0, 0),
     }))
 }
 
@@ -110,7 +117,7 @@ pub fn shown(drive: &Drive) -> Answer {
 }
 
 /// STOP with offsets measured, no low given since the load.
-pub fn measured(changes: &[(usize, u16)]) -> Drive {
+pub fn measured(changes: &[(Setting, u16)]) -> Drive {
     let drive = tick(&loaded(changes), &high());
     assert_eq!(drive.state, State::OffsetCal);
     let wanted = drive.settings.offset_cycles();
@@ -120,7 +127,7 @@ pub fn measured(changes: &[(usize, u16)]) -> Drive {
 }
 
 /// STOP with offsets measured and armed.
-pub fn armed(changes: &[(usize, u16)]) -> Drive {
+pub fn armed(changes: &[(Setting, u16)]) -> Drive {
     let drive = tick(&measured(changes), &low());
     assert!(drive.armed);
     drive
@@ -128,7 +135,7 @@ pub fn armed(changes: &[(usize, u16)]) -> Drive {
 
 /// The drive in one of the states 1 to 9; the settings given may not keep it
 /// from getting there with few cycles and ticks.
-pub fn in_state(state: State, changes: &[(usize, u16)]) -> Drive {
+pub fn in_state(state: State, changes: &[(Setting, u16)]) -> Drive {
     match state {
         State::Idle => Drive::power_up(),
         State::Stop => measured(changes),
@@ -149,6 +156,6 @@ pub fn in_state(state: State, changes: &[(usize, u16)]) -> Drive {
 }
 
 /// MOTORRUN just entered, with a speed of 0.
-pub fn running(changes: &[(usize, u16)]) -> Drive {
+pub fn running(changes: &[(Setting, u16)]) -> Drive {
     in_state(State::MotorRun, changes)
 }
