@@ -65,7 +65,7 @@ pub fn stays_in_idle(seed: u64) -> bool {
 
 /// A FaultEnable that masks one flag.
 fn all_but(flag: Flag) -> u16 {
-    65535 & !flag.bit() as u16
+    !flag.bit() as u16
 }
 
 impl Generator {

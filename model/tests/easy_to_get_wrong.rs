@@ -208,7 +208,7 @@ fn load_in_stop_with_a_live_flag_clears_everything() {
     assert_eq!(fresh, loaded(&[]));
     let mut cleared = Drive::power_up();
     cleared.state = State::Stop;
-    cleared.settings = fresh.settings.clone();
+    cleared.settings = fresh.settings;
     assert_eq!(fresh, cleared);
 }
 
