@@ -213,25 +213,6 @@ fn load_in_stop_with_a_live_flag_clears_everything() {
 }
 
 #[test]
-fn a_relation_belongs_to_the_setting_that_states_it() {
-    let place = |changes: &[(Setting, u16)]| {
-        let answer = Drive::power_up().load(&settings_with(changes)).answer;
-        (answer.number, answer.place)
-    };
-    // VdcOvLevel 0: 3 itself is good, 4 is not below it.
-    assert_eq!(place(&[(VdcOvLevel, 0), (VdcLvLevel, 0)]), (2, 4));
-    // VdcOvLevel above CriticalOvLevel: 5.
-    assert_eq!(place(&[(VdcOvLevel, 3501)]), (2, 5));
-    // CmdStart 0: 22.
-    assert_eq!(place(&[(CmdStart, 0), (CmdStop, 0)]), (2, 22));
-    // At the edge: accepted.
-    assert_eq!(
-        place(&[(VdcLvLevel, 2999), (CriticalOvLevel, 3000), (CmdStop, 399)]),
-        (0, 0)
-    );
-}
-
-#[test]
 fn counters_do_not_wrap() {
     // A cause that ends after FAULT's 65,536th tick still gets its retry.
     for standing in [65_535, 65_536, 65_537, 70_000] {

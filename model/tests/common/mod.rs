@@ -111,6 +111,13 @@ pub fn accepted(reply: Reply) -> Drive {
     reply.drive
 }
 
+/// A refusal leaves the drive as it was and shows it.
+pub fn refused(reply: Reply, before: &Drive, number: u8, place: u8) {
+    assert_eq!((reply.answer.number, reply.answer.place), (number, place));
+    assert_eq!(&reply.drive, before);
+    assert_eq!(reply.answer, before.answer(number, place));
+}
+
 /// The answer that shows a drive.
 pub fn shown(drive: &Drive) -> Answer {
     drive.answer(0, 0)
