@@ -4,7 +4,7 @@ use crate::drive::Drive;
 use crate::flag::Flag;
 use crate::settings::Setting;
 use crate::state::State;
-use crate::tick::TickFields;
+use crate::tick_fields::TickFields;
 
 /// "a slot is bad if any tick has Flx_M below 512 or above 8192."
 pub const GOOD_FLUX: std::ops::RangeInclusive<i64> = 512..=8192;

@@ -1,7 +1,7 @@
 //! The cycle call: one per PWM cycle.
 
 use crate::causes::FULL_STILL_COUNT;
-use crate::drive::{Drive, Pair, Reply};
+use crate::drive::{Drive, Pair, Refusal, Reply};
 use crate::fields::{bad_places, FieldRule, Form, MOST_LEVEL};
 use crate::flag::Flag;
 use crate::hall::{boundary_angle, group, middle_angle, with_offset, Group};
@@ -43,11 +43,11 @@ impl Drive {
     /// The cycle call.  "3 before 1".
     pub fn cycle(&self, fields: &CycleFields) -> Reply {
         if self.state == State::Idle {
-            return self.refuse(3, 0);
+            return self.refuse(Refusal::InIdle, 0);
         }
         // "first bad field, from 1"
         if let Some(&place) = fields.bad_fields().first() {
-            return self.refuse(1, place);
+            return self.refuse(Refusal::FieldOutOfRange, place);
         }
         let mut next = self.clone();
         next.take_pattern(fields.pattern);

@@ -80,6 +80,23 @@ pub struct Answer {
     pub retries_used: u16,
 }
 
+/// The numbers of the table of refusals.
+#[derive(Clone, Copy, Debug, PartialEq, Eq)]
+pub enum Refusal {
+    /// "cycle or tick field out of range"
+    FieldOutOfRange = 1,
+    /// "settings not 24 numbers", or a setting that breaks its rule
+    BadSetting = 2,
+    /// "cycle or tick in IDLE"
+    InIdle = 3,
+    /// "load outside IDLE and STOP"
+    NotStopped = 4,
+    /// no line for this answer, or no room for it
+    NoLine = 5,
+    /// "unknown or short record"
+    UnknownOrShort = 6,
+}
+
 /// "Each hands the next drive state back beside its answer".
 #[derive(Clone, Debug, PartialEq, Eq)]
 pub struct Reply {
@@ -120,10 +137,10 @@ impl Drive {
     pub fn load(&self, numbers: &[u16]) -> Reply {
         // "load outside IDLE and STOP"
         if self.state != State::Idle && self.state != State::Stop {
-            return self.refuse(4, 0);
+            return self.refuse(Refusal::NotStopped, 0);
         }
         match Settings::read(numbers) {
-            Err(place) => self.refuse(2, place),
+            Err(place) => self.refuse(Refusal::BadSetting, place),
             Ok(settings) => {
                 // "An accepted load gives STOP and clears everything else to
                 // power-up values: flags, position, pattern, offsets and
@@ -222,10 +239,10 @@ impl Drive {
 
     /// "A refusal changes no state and no lent byte; its other fields show
     /// the unchanged state."
-    pub fn refuse(&self, number: u8, place: u8) -> Reply {
+    pub fn refuse(&self, refusal: Refusal, place: u8) -> Reply {
         Reply {
             drive: self.clone(),
-            answer: self.answer(number, place),
+            answer: self.answer(refusal as u8, place),
         }
     }
 }

@@ -14,7 +14,8 @@
 //! * `fields`    fields of a cycle and a tick: ranges and bytes,
 //! * `cycle`     the cycle call,
 //! * `hall`      Hall groups and angles,
-//! * `tick`      the tick call: command, move, speed reference,
+//! * `tick_fields` the fields of a tick: ranges, command, target,
+//! * `tick`      the tick call: move, speed reference,
 //! * `causes`    the causes that set flags,
 //! * `line`      the report line call,
 //! * `record`    records of the program,
@@ -38,12 +39,13 @@ pub mod record;
 pub mod settings;
 pub mod state;
 pub mod tick;
+pub mod tick_fields;
 
 pub use cycle::CycleFields;
-pub use drive::{Answer, Drive, Gate, Pair, Reply};
+pub use drive::{Answer, Drive, Gate, Pair, Refusal, Reply};
 pub use flag::Flag;
 pub use line::report_line;
 pub use record::Record;
 pub use settings::{Setting, Settings};
 pub use state::State;
-pub use tick::TickFields;
+pub use tick_fields::TickFields;

@@ -1,9 +1,11 @@
 //! The report line call.
 
-use crate::drive::Answer;
+use crate::drive::{Answer, Refusal};
 use crate::state::NAMES;
 
 pub const LINE_LENGTH: usize = 45;
+
+const NO_LINE: u8 = Refusal::NoLine as u8;
 
 /// Writes the line of an answer into lent bytes; gives number and place.
 ///
@@ -12,18 +14,18 @@ pub const LINE_LENGTH: usize = 45;
 pub fn report_line(answer: &Answer, lent: &mut [u8]) -> (u8, u8) {
     // "fewer than 45 lent bytes for a line"
     if lent.len() < LINE_LENGTH {
-        return (5, 0);
+        return (NO_LINE, 0);
     }
     // "answer to print has number above 15, state above 9 or gate above 3":
     // "1, 2 or 3, the first"
     if answer.number > 15 {
-        return (5, 1);
+        return (NO_LINE, 1);
     }
     if answer.state > 9 {
-        return (5, 2);
+        return (NO_LINE, 2);
     }
     if answer.gate > 3 {
-        return (5, 3);
+        return (NO_LINE, 3);
     }
     let line = line_text(answer);
     // "45 bytes, lent bytes after them unchanged"

@@ -1,6 +1,6 @@
 //! The program of "Report line and program".
 
-use crate::drive::{Answer, Drive};
+use crate::drive::{Answer, Drive, Refusal};
 use crate::line::{report_line, LINE_LENGTH};
 use crate::record::{read_head, record_length, Head};
 
@@ -25,7 +25,7 @@ pub fn run(input: &[u8]) -> Vec<u8> {
             // A short record makes no call, so it is 6 even where 3 or 4
             // would hold.
             Head::Unknown(_) | Head::Short(_) => {
-                push_line(&mut lines, &drive.answer(6, 0));
+                push_line(&mut lines, &drive.answer(Refusal::UnknownOrShort as u8, 0));
                 return lines;
             }
         }

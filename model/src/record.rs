@@ -4,7 +4,7 @@ use crate::cycle::{CycleFields, CYCLE_RULES};
 use crate::drive::{Drive, Reply};
 use crate::fields::{FieldRule, Form};
 use crate::settings::SETTINGS;
-use crate::tick::{TickFields, TICK_RULES};
+use crate::tick_fields::{TickFields, TICK_RULES};
 
 #[derive(Clone, Debug, PartialEq, Eq)]
 pub enum Record {

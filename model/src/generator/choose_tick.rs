@@ -7,7 +7,7 @@ use crate::flag::Flag;
 use crate::random::Random;
 use crate::settings::Setting;
 use crate::state::State;
-use crate::tick::TickFields;
+use crate::tick_fields::TickFields;
 
 /// What the command of a tick is to be.
 #[derive(Clone, Copy, Debug, PartialEq, Eq)]
@@ -20,14 +20,24 @@ pub enum Command {
 }
 
 impl Generator {
-    /// A tick at which no cause of flags 0, 1, 2, 3 and 6 stands.  Values lean
-    /// to the last ones that are still good.
+    /// A tick at which no cause of flags 0, 1, 2, 3 and 6 stands; its target
+    /// is the one that later ticks keep.
     pub(super) fn quiet_tick(&mut self, command: Command) -> TickFields {
+        let fields = self.passing_tick(command);
+        self.mood.target = fields.target;
+        fields
+    }
+
+    /// The same with a target that may be for this tick alone.  Values lean to
+    /// the last ones that are still good.
+    pub(super) fn passing_tick(&mut self, command: Command) -> TickFields {
         let settings = self.drive.settings;
         let (field_command, control) = self.command_fields(command);
-        if self.random.chance(30) {
-            self.mood.target = self.new_target();
-        }
+        let target = if self.random.chance(30) {
+            self.new_target()
+        } else {
+            self.mood.target
+        };
         let random = &mut self.random;
         let vdc_raw = random.leaning(0, settings[Setting::CriticalOvLevel]);
         let vdc_filt = random.leaning(settings[Setting::VdcLvLevel], settings[Setting::VdcOvLevel]);
@@ -44,7 +54,7 @@ impl Generator {
             flx_m: self.flux(),
             trq_ref: self.torque(),
             speed: self.speed(),
-            target: self.mood.target,
+            target,
         }
     }
 

@@ -109,11 +109,8 @@ impl Generator {
                 let upward = self.drive.speed_reference_times_2048 < 0;
                 self.mood.target = if upward { target } else { -target };
                 for _ in 0..self.random.pick(&[10, 60, 120]) {
-                    // Staying takes a command that is not low; the target of
-                    // the mood is kept although ticks change it at times.
-                    let kept = self.mood.target;
-                    let record = Record::Tick(self.quiet_tick(Command::NotLow));
-                    self.mood.target = kept;
+                    // Staying takes a command that is not low.
+                    let record = Record::Tick(self.passing_tick(Command::NotLow));
                     self.emit(record);
                 }
             }

@@ -6,7 +6,7 @@ use crate::cycle::CYCLE_RULES;
 use crate::fields::{FieldRule, Form};
 use crate::record::Record;
 use crate::state::State;
-use crate::tick::TICK_RULES;
+use crate::tick_fields::TICK_RULES;
 
 impl Generator {
     /// A record that will be refused in the present state.  Number 2 at place

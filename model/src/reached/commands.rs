@@ -3,7 +3,7 @@
 use super::{add_all, states_but_idle, LastExit, Reached, Seen};
 use crate::settings::Setting;
 use crate::state::State;
-use crate::tick::TickFields;
+use crate::tick_fields::TickFields;
 
 counted_names! {
     Name {

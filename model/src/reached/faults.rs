@@ -4,7 +4,8 @@ use super::{add_all, LastExit, Reached, Seen};
 use crate::flag::Flag;
 use crate::settings::Setting;
 use crate::state::State;
-use crate::tick::{TickFields, FAULT_WAIT};
+use crate::tick::FAULT_WAIT;
+use crate::tick_fields::TickFields;
 
 const FIRST_RETRY: &str = "exit by retry number 1";
 

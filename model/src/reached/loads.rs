@@ -2,11 +2,15 @@
 
 use super::{states_but_idle, Reached, Seen};
 use crate::cycle::CYCLE_RULES;
+use crate::drive::Refusal;
 use crate::fields::FieldRule;
 use crate::record::Record;
 use crate::settings::{accepted_ends, PerSetting, Relation, Rule, Settings, RULES, SETTINGS};
 use crate::state::State;
-use crate::tick::TICK_RULES;
+use crate::tick_fields::TICK_RULES;
+
+const FIELD_OUT_OF_RANGE: u8 = Refusal::FieldOutOfRange as u8;
+const IN_IDLE: u8 = Refusal::InIdle as u8;
 
 const SECOND_BAD_FIELD: &str = "refused 1 with a second bad field after the first";
 const FIELD_REFUSED_AS_WELL: &str = "refused 3 at 0 where 1 would hold";
@@ -148,13 +152,13 @@ impl Reached {
         let state = seen.before.state.name();
         let letter = seen.record.letter() as char;
         match number {
-            1 => {
+            FIELD_OUT_OF_RANGE => {
                 self.count(format!("refused 1 at {place} by {letter}"));
                 self.count(format!("refused 1 by {letter} in {state}"));
                 let bad = seen.record.bad_fields().len();
                 self.count_if(bad > 1, SECOND_BAD_FIELD);
             }
-            3 => {
+            IN_IDLE => {
                 self.count(format!("refused 3 at {place} by {letter}"));
                 let bad = seen.record.bad_fields().len();
                 self.count_if(bad > 0, FIELD_REFUSED_AS_WELL);
@@ -164,7 +168,7 @@ impl Reached {
             )),
         }
         if let Record::Load(numbers) = seen.record {
-            if number == 4 {
+            if number == Refusal::NotStopped as u8 {
                 self.count_if(Settings::read(numbers).is_err(), SETTING_REFUSED_AS_WELL);
             } else {
                 self.observe_broken_relation(&PerSetting(*numbers), place);

@@ -5,7 +5,7 @@ use crate::causes::{BAD_SLOTS, GOOD_FLUX, MOST_LOCKED_SPEED};
 use crate::flag::Flag;
 use crate::settings::Setting;
 use crate::state::State;
-use crate::tick::TickFields;
+use crate::tick_fields::TickFields;
 
 counted_names! {
     Count {

@@ -4,7 +4,7 @@ use super::{Reached, Seen};
 use crate::causes::{GOOD_FLUX, MOST_LOCKED_SPEED};
 use crate::settings::Setting;
 use crate::state::State;
-use crate::tick::{TickFields, TICK_RULES};
+use crate::tick_fields::{TickFields, TICK_RULES};
 
 counted_names! {
     /// Compared at every accepted tick (the control in mode 1 only).
