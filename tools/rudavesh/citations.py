@@ -112,7 +112,10 @@ def missing_names(root: Path, line: str) -> Iterator[Tuple[str, str]]:
     for match in OF_A_FILE.finditer(line):
         if any(start < match.start(2) < end for start, end in spans):
             continue
-        crate = match[1] if match[1] in crates else None
+        crate = match[1]
+        if crate and crate not in crates:
+            yield crate, f"a crate, though {match[2]} is cited as a file of it"
+            continue
         files, where = files_of(root, crate, match[2]), f"{crate} {match[2]}" if crate else match[2]
         if not files:
             yield match[2], f"a file of {crate or 'any crate'}"

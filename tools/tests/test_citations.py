@@ -66,6 +66,7 @@ class Checker(unittest.TestCase):
             ("see `hall/early`", "hall/early", "in the repository"),
             ("`angle` in `crates/hall/specs/Fate.antt`", "angle", "in crates/hall/specs/Fate.antt"),
             ("`hall` Angle.antt", "Angle.antt", "a file of hall"),
+            ("`halls` Fate.antt `fate`", "halls", "a crate, though Fate.antt is cited as a file of it"),
             ("Angle.antt `angle`", "Angle.antt", "a file of any crate"),
             ("`hall` Fate.antt `fate`, `other`", "other", "in hall Fate.antt"),
             ("Fate.antt `next`", "next", "in Fate.antt"),
