@@ -1,2 +1,5 @@
+-- What the proofs of the crates above cite.
+pub mod Gates
+pub mod Spin
 -- Of the promises themselves.
 pub mod OneReply

@@ -1,5 +1,6 @@
 -- A test that passes at each of the ten states passes at every state: antt computes it ten times, so no proof goes through them again.
-use mathlib.Core.Bool.{Bool, true, false, _||_, not}
+use mathlib.Core.Path.{_≡_, refl}
+use mathlib.Core.Bool.{Bool, true, false, _||_, not, Bool·beq}
 use mathlib.Core.List.{List, [], _∷_}
 use Prim.Native.Nat.{ℕ, _<_}
 use native.Mathlib.Omega.{arith}
@@ -54,3 +55,13 @@ every test passes AngleSensing = at-number test passes 9 (omega arith)
 -- where one test passes, so does another, at every state
 pub at-every : (one other : State → Bool) → AtAllTen (λ s. implies (one s) (other s)) → (s : State) → T (one s) → T (other s)
 at-every one other passes s = follows (one s) (other s) (every (λ s. implies (one s) (other s)) passes s)
+
+-- two tests agree at every state
+agree : (a b : Bool) → T (Bool·beq a b) → a ≡ b
+agree true true t = refl
+agree true false t = absurd t
+agree false true t = absurd t
+agree false false t = refl
+
+pub same-at-every : (one other : State → Bool) → AtAllTen (λ s. Bool·beq (one s) (other s)) → (s : State) → one s ≡ other s
+same-at-every one other passes s = agree (one s) (other s) (every (λ s. Bool·beq (one s) (other s)) passes s)

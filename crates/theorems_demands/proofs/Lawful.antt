@@ -5,21 +5,24 @@ use mathlib.Core.List.{List}
 use Prim.Native.Nat.{ℕ, _≤_, zero-le}
 use lib.Dec.{T, eqb, not-T}
 use mir.Facts.{and-yes, ltb-no}
-use Rattle.numbers.proofs.Tests.{decide}
 use Rattle.theorems_history.specs.Onlooker.{Memory, Asked, neither, heard, remember, noted, note}
 use Rattle.theorems_history.specs.Laws.{Step, Lawful}
-use Rattle.numbers.proofs.Tests.{or-left, fails-left, fails-right, contrary, joins}
+use Rattle.numbers.proofs.Tests.{decide, or-left, fails-left, fails-right, contrary, joins}
 use Rattle.theorems_history.proofs.Steps
 use Rattle.theorems_history.proofs.Demand3.{demand3}
 use Rattle.states.specs.States.{numberOf, is, turning}
 use Rattle.settings.specs.Settings.{FaultEnable, RetryLimit}
-use Rattle.drive.specs.Flags.{any}
+use Rattle.faults.specs.Word.{flag, any}
+use Rattle.faults.proofs.Bits.{old-stays}
+use Rattle.drive.specs.Flags.{alwaysLive}
 use Rattle.drive.specs.Command.{low}
-use Rattle.drive.specs.Answer.{alive, answer, reply as replied}
+use Rattle.drive.specs.Answer.{liveWord, answer, reply as replied}
 use Rattle.verdicts.specs.Table.{verdict}
 use Rattle.drive.specs.Refusals.{loadRows, cycleRows, tickRows}
-use Rattle.drive.specs.Calls.{fresh, cycled, ticked, sample}
+use Rattle.drive.specs.Calls.{fresh, becomes, cycled, sample}
 use Rattle.drive.specs.Calls
+use Rattle.drive.specs.Ticks.{ticked}
+use Rattle.drive.specs.Ticks as TickCalls
 use Rattle.drive.specs.AnyCall.{Call, loads, cycles, ticks, reply}
 use Rattle.drive.specs.declared.Drive.{Drive}
 use Rattle.drive.specs.declared.answer.Reply.{Reply}
@@ -27,12 +30,10 @@ use Rattle.fields.specs.declared.Cycle.{Cycle}
 use Rattle.fields.specs.declared.Tick.{Tick}
 use Rattle.states.specs.declared.State.the-variants.{Stop}
 use Rattle.hall.specs.declared.Hall.{Hall}
-use Rattle.drive.specs.declared.flags.Flags.{Flags}
 use Rattle.drive.specs.declared.offsets.Offsets.{Offsets}
 use Rattle.theorems_reached.specs.Machine.{machine}
 use Rattle.theorems_reached.specs.Reached.{Reached}
 use Rattle.theorems_reached.proofs.Verdicts.{settles, passed, accepted-state}
-use Rattle.theorems_reached.proofs.Flags.{stays-with-hall}
 use Rattle.theorems_reached.proofs.Keeps.{reached-power-up, cycled-reached, call-keeps}
 use Rattle.theorems_reached.proofs.Corollaries.{disarmed-in-fault, low-excludes-high}
 use Rattle.theorems_demands.specs.Supervised.{words, deadCauseOf, DriveDemand3}
@@ -69,21 +70,9 @@ module _ (d : Drive) (r : Reached d) (memory : Memory) (knows : Remembers d memo
 
   -- a call that is no tick and after which the drive stands where it stood, armed as it was: one that is refused, and a cycle. It may end
   -- the turning, by a flag
-  module _ (hall : Hall) (flags : Flags) (cycles : ℕ) (offsets : Offsets) where
+  module _ (hall : Hall) (flags cycles : ℕ) (offsets : Offsets) where
     abbrev stood : Drive
-    stood =
-        record {
-          state = d .state;
-          settings = d .settings;
-          hall = hall;
-          flags = flags;
-          cycles = cycles;
-          ticks = d .ticks;
-          offsets = offsets;
-          run = d .run;
-          armed = d .armed;
-          retries = d .retries;
-        }
+    stood = becomes d (d .state) hall flags cycles (d .ticks) offsets (d .run) (d .armed) (d .retries)
 
     -- a dead streak of 2 is flagged as long as it stands; in IDLE there is none
     dead-faults :
@@ -91,17 +80,18 @@ module _ (d : Drive) (r : Reached d) (memory : Memory) (knows : Remembers d memo
         → Reached stood
         → Remembers stood now
         → T (deadCauseOf (now .numbers) (now .dead))
-        → T (any (alive stood))
+        → T (any (liveWord stood))
     dead-faults now r-now knows-now cause =
         decide (is 0 (d .state))
         (λ idle.
-        let none : hall .«dead_streak» ≡ 0 = ap (λ (e : Drive). e .hall .«dead_streak») (r-now .idle idle) in absurd (rw (knows-now .dead, none) at cause))
+        let none : hall .«dead_streak» ≡ 0 = ap (λ (e : Drive). e .hall .«dead_streak») (r-now .idle idle) in
+        absurd (rw (knows-now .dead, none) at cause))
         (λ outside. dead-shows stood r-now (rw (knows-now .loaded outside, knows-now .dead) at cause))
 
     stands :
         (number at : ℕ) (now : Memory)
         → Reached stood
-        → (T (any (alive d)) → T (any (alive stood)))
+        → (T (any (liveWord d)) → T (any (liveWord stood)))
         → Remembers stood now
         → now .numbers ≡ memory .numbers
         → Step (inside d) (noted words memory neither now (answer number at stood)) (inside stood)
@@ -120,9 +110,9 @@ module _ (d : Drive) (r : Reached d) (memory : Memory) (knows : Remembers d memo
         (λ is. is)
         (or-left (d .armed) false)
         (λ turns.
-        let (runs, dim) = and-yes (turning (d .state)) (not (any (alive stood))) turns in
+        let (runs, dim) = and-yes (turning (d .state)) (not (any (liveWord stood))) turns in
         let drives = shows-turning number at stood turns in
-        let was = contrary (any (alive d)) (any (alive stood)) more dim in
+        let was = contrary (any (liveWord d)) (any (liveWord stood)) more dim in
         let no-start : Bool = not (is 3 (d .state) && is 1 (d .state) && false) in
         let begun = fails-left (begins (d .state) (d .state)) no-start (begins-nothing (d .state)) in
         rw (knows .shown, knows-now .shown) (search joins depth 9))
@@ -174,15 +164,12 @@ module _ (d : Drive) (r : Reached d) (memory : Memory) (knows : Remembers d memo
       record {
         remembers = now;
         obeys =
-            stands _ _ _ _ 0 0 _ r-now (stays-with-hall (FaultEnable (d .settings)) (sample d c .flagged) (d .flags)) now refl;
+            stands _ _ _ _ 0 0 _ r-now (old-stays alwaysLive (FaultEnable (d .settings)) (d .flags) (flag 15 (sample d c .flagged))) now refl;
       }
 
   module _ (t : Tick) (outside : T (not (is 0 (d .state)))) where
     -- what he remembers, in the drive's words
-    recalled :
-        Ticks.memory (d .settings) (d .hall) (d .flags) (d .cycles) (d .ticks) (d .offsets) (d .run) (d .armed) (d .retries) t
-        (memory .waited) (d .state)
-        ≡ memory
+    recalled : Ticks.memory d t (memory .waited) (d .state) ≡ memory
     recalled = same-memory memory (knows .loaded outside) (knows .shown) (knows .dead)
 
     tick-done : Done d memory (ticks t) (replied 0 0 (ticked d t))
@@ -194,24 +181,24 @@ module _ (d : Drive) (r : Reached d) (memory : Memory) (knows : Remembers d memo
               (λ (m : Memory).
               Step (inside d) (note words m (record { call = ticks t; answer = answer 0 0 (ticked d t) })) (inside (ticked d t)))
               recalled
-              (Ticks.tick-obeys (d .settings) (d .hall) (d .flags) (d .cycles) (d .ticks) (d .offsets) (d .run) (d .armed) (d .retries) t
-              (memory .waited) (r .retries) (d .state)
+              (Ticks.tick-obeys d t (memory .waited) (r .retries) (d .state)
               outside
               (not-both (is 5 (d .state)) (d .armed) (λ fault. rw (disarmed-in-fault d r fault) tt))
               (knows .waited)
-              (r .tripped)
+              (r .flags .tripped)
               (λ is-high. not-T (low (d .settings) t) (λ is-low. low-excludes-high d r t outside is-low is-high)));
         }
 
   done : (call : Call) → Done d memory call (reply d call)
-  unfolding Calls.load Calls.cycle Calls.tick
+  unfolding Calls.load Calls.cycle TickCalls.tick
   done (loads numbers) =
       settles (Done d memory (loads numbers)) (verdict (loadRows d numbers)) (fresh Stop numbers) d
       (λ none. load-done numbers (accepted-state d numbers none))
       (refused (loads numbers) _ _)
   done (cycles c) =
       settles (Done d memory (cycles c)) (verdict (cycleRows d c)) (cycled d c) d
-      (λ none. let p = passed (cycleRows d c) tt none in
+      (λ none.
+      let p = passed (cycleRows d c) tt none in
       cycle-done c (cycled-reached d c r (p .0) (ltb-no (p .1 .1 .0)) (ltb-no (p .1 .1 .1 .0))) (ltb-no (p .1 .0)))
       (refused (cycles c) _ _)
   done (ticks t) =

@@ -1,5 +1,4 @@
 -- The demands of this drive.
-pub mod Gates
 pub mod Tests
 pub mod Causes
 pub mod Shown
@@ -14,4 +13,3 @@ pub mod Silence
 pub mod Liars
 mod Grown
 pub mod Stream
-pub mod Errors

@@ -15,13 +15,13 @@ use Rattle.verdicts.specs.Table.{Row, verdict}
 use Rattle.drive.specs.Refusals.{loadRows, cycleRows, tickRows}
 use Rattle.drive.specs.Calls
 use Rattle.drive.specs.Calls.{settle}
+use Rattle.drive.specs.Ticks
 use Rattle.drive.specs.AnyCall.{Call, loads, cycles, ticks, reply}
 use Rattle.drive.specs.declared.Drive.{Drive}
 use Rattle.drive.specs.declared.answer.Answer.{Answer}
 use Rattle.drive.specs.declared.answer.Reply.{Reply}
 use Rattle.fields.specs.declared.Cycle.{Cycle}
 use Rattle.fields.specs.declared.Tick.{Tick}
-use Rattle.drive.specs.declared.flags.Flags.{Flags}
 use Rattle.motor.specs.declared.Watched.{Watched}
 use Rattle.moves.specs.declared.Move.{Move}
 use Rattle.moves.specs.declared.Move.the-variants.{Stay, Enter, Measure, Clear, Retry}
@@ -54,7 +54,7 @@ pub refused-unchanged :
     (d : Drive) (call : Call)
     → (reply d call .answer .number ≡ 0 → ⊥)
     → reply d call ≡ shown (verdict (rows d call) .number) (verdict (rows d call) .place) d
-unfolding Calls.load Calls.cycle Calls.tick
+unfolding Calls.load Calls.cycle Ticks.tick
 refused-unchanged d (loads numbers) given = refusal (verdict (loadRows d numbers)) _ d given
 refused-unchanged d (cycles fields) given = refusal (verdict (cycleRows d fields)) _ d given
 refused-unchanged d (ticks fields) given = refusal (verdict (tickRows d fields)) _ d given
@@ -102,13 +102,13 @@ unread-unchanged (suc fuel) closed room bytes d none =
 
 -- "The drive state keeps its 24 settings as loaded": no cycle and no tick changes them
 settings-moved :
-    (d : Drive) (t : Tick) (w : Watched) (flags : Flags) (armed : Bool) (move : Move)
-    → Calls.moved d t w flags armed move .settings ≡ d .settings
-settings-moved d t w flags armed Stay = refl
-settings-moved d t w flags armed (Enter state) = refl
-settings-moved d t w flags armed Measure = refl
-settings-moved d t w flags armed Clear = refl
-settings-moved d t w flags armed Retry = refl
+    (d : Drive) (t : Tick) (w : Watched) (flags : ℕ) (armed : Bool) (nth : ℕ) (move : Move)
+    → Ticks.moved d t w flags armed nth move .settings ≡ d .settings
+settings-moved d t w flags armed nth Stay = refl
+settings-moved d t w flags armed nth (Enter state) = refl
+settings-moved d t w flags armed nth Measure = refl
+settings-moved d t w flags armed nth Clear = refl
+settings-moved d t w flags armed nth Retry = refl
 
 settled-settings : (v : Verdict) (next d : Drive) → next .settings ≡ d .settings → settle v next d .drive .settings ≡ d .settings
 settled-settings v next d e = settled (λ (after : Drive). after .settings ≡ d .settings) v next d (λ none. e) refl
@@ -117,8 +117,8 @@ pub cycle-keeps-settings : (d : Drive) (c : Cycle) → Calls.cycle d c .drive .s
 unfolding Calls.cycle Calls.cycled
 cycle-keeps-settings d c = settled-settings (verdict (cycleRows d c)) (Calls.cycled d c) d refl
 
-pub tick-keeps-settings : (d : Drive) (t : Tick) → Calls.tick d t .drive .settings ≡ d .settings
-unfolding Calls.tick Calls.ticked
+pub tick-keeps-settings : (d : Drive) (t : Tick) → Ticks.tick d t .drive .settings ≡ d .settings
+unfolding Ticks.tick Ticks.ticked
 tick-keeps-settings d t =
-    settled-settings (verdict (tickRows d t)) (Calls.ticked d t) d
-    (settings-moved d t (Calls.watch d t) (Calls.raised d t) (Calls.arms d t) (Calls.chosen d t))
+    settled-settings (verdict (tickRows d t)) (Ticks.ticked d t) d
+    (settings-moved d t (Ticks.watch d t) (Ticks.raised d t) (Ticks.armedBy d t) (Ticks.nth d) (Ticks.chosen d t))

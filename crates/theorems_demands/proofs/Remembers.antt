@@ -1,6 +1,6 @@
 -- What the onlooker remembers of the log is so of the drive: each call leaves it so.
 use mathlib.Core.Path.{_≡_, refl, sym}
-use mathlib.Core.Bool.{true, false, not}
+use mathlib.Core.Bool.{Bool, true, false, not}
 use mathlib.Core.List.{List}
 use Prim.Native.Nat.{ℕ, _≤_, zero-le}
 use native.Mathlib.Omega.{arith}
@@ -9,14 +9,18 @@ use lib.Ieee.Bits.{is-true}
 use Rattle.theorems_history.specs.Onlooker.{Memory, nothingYet, remember}
 use Rattle.states.specs.States.{numberOf, is}
 use Rattle.drive.specs.Answer.{answer}
-use Rattle.drive.specs.Calls.{powerUp, fresh, cycled, ticked, moved, watch, raised, arms, chosen}
+use Rattle.drive.specs.Calls.{powerUp, fresh, cycled}
+use Rattle.drive.specs.Ticks.{ticked, arrive, moved, watch, raised, armedBy, nth, chosen}
 use Rattle.drive.specs.AnyCall.{Call, loads, cycles, ticks}
 use Rattle.drive.specs.declared.Drive.{Drive}
 use Rattle.fields.specs.declared.Cycle.{Cycle}
 use Rattle.fields.specs.declared.Tick.{Tick}
 use Rattle.moves.specs.declared.Move.{Move}
 use Rattle.moves.specs.declared.Move.the-variants.{Stay, Enter, Measure, Clear, Retry}
+use Rattle.states.specs.declared.State.{State}
 use Rattle.states.specs.declared.State.the-variants.{Stop}
+use Rattle.drive.specs.declared.offsets.Offsets.{Offsets}
+use Rattle.motor.specs.declared.Run.{Run}
 use Rattle.theorems_reached.proofs.Hall.{dead-by-pattern}
 use Rattle.theorems_demands.specs.Supervised.{words}
 
@@ -69,7 +73,14 @@ module _ (d : Drive) (memory : Memory) (knows : Remembers d memory) where
 
   module _ (t : Tick) (outside : T (not (is 0 (d .state)))) where
     abbrev next : Move → Drive
-    next move = moved d t (watch d t) (raised d t) (arms d t) move
+    next move = moved d t (watch d t) (raised d t) (armedBy d t) (nth d) move
+
+    -- a tick that arrives in a state: its ticks are counted from 0
+    arrives :
+        {state : State} {flags retries : ℕ} {offsets : Offsets} {run : Run} {armed : Bool}
+        → (let after : Drive = arrive d state flags offsets run armed retries in Remembers after (afterAccepted memory (ticks t) after))
+    unfolding answer
+    arrives = record { loaded = λ u. knows .loaded outside; shown = refl; waited = λ fault. zero-le; dead = knows .dead }
 
     by-move : (move : Move) → Remembers (next move) (afterAccepted memory (ticks t) (next move))
     unfolding answer
@@ -80,10 +91,10 @@ module _ (d : Drive) (memory : Memory) (knows : Remembers d memory) where
           waited = λ fault. let few = knows .waited fault in rw (in-fault fault) (omega arith);
           dead = knows .dead;
         }
-    by-move (Enter state) = record { loaded = λ u. knows .loaded outside; shown = refl; waited = λ fault. zero-le; dead = knows .dead }
-    by-move Measure = record { loaded = λ u. knows .loaded outside; shown = refl; waited = λ fault. zero-le; dead = knows .dead }
-    by-move Clear = record { loaded = λ u. knows .loaded outside; shown = refl; waited = λ fault. zero-le; dead = knows .dead }
-    by-move Retry = record { loaded = λ u. knows .loaded outside; shown = refl; waited = λ fault. zero-le; dead = knows .dead }
+    by-move (Enter state) = arrives
+    by-move Measure = arrives
+    by-move Clear = arrives
+    by-move Retry = arrives
 
     pub tick-remembers : Remembers (ticked d t) (afterAccepted memory (ticks t) (ticked d t))
     unfolding ticked

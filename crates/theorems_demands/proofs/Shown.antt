@@ -1,45 +1,45 @@
 -- What the drive holds inside, and what its answers show of it: the live word shows a live flag; where the gates charge or drive it turns,
 -- and where it turns they do, in a starting or running state.
-use mathlib.Core.Path.{_≡_, subst}
+use mathlib.Core.Path.{_≡_, refl, subst}
 use mathlib.Core.Bool.{not, _&&_}
 use Prim.Native.Nat.{ℕ}
 use lib.Dec.{T}
 use mir.Facts.{and-yes, yes-and}
 use Rattle.theorems_history.specs.Laws.{Inside}
 use Rattle.states.specs.States.{is, turning}
-use Rattle.drive.specs.Flags.{any}
-use Rattle.drive.specs.Answer.{alive, answer}
+use Rattle.faults.specs.Word.{any}
+use Rattle.drive.specs.Answer.{liveWord, answer}
 use Rattle.drive.specs.declared.Drive.{Drive}
 use Rattle.theorems_demands.specs.Supervised.{words}
-use Rattle.theorems_demands.proofs.Gates.{gates-by, word-shows}
+use Rattle.drive.proofs.Gates.{gates-by}
 
 abbrev pub inside : Drive → Inside
 inside d =
     record {
       loaded = not (is 0 (d .state));
       armed = d .armed;
-      faulted = any (alive d);
-      turning = turning (d .state) && not (any (alive d));
+      faulted = any (liveWord d);
+      turning = turning (d .state) && not (any (liveWord d));
       used = d .retries;
     }
 
 module _ (number at : ℕ) (d : Drive) where
   pub fault-shown : words .liveShown (answer number at d) ≡ inside d .faulted
   unfolding answer
-  fault-shown = word-shows (alive d)
+  fault-shown = refl
 
   pub gates-ask : T (words .turns (answer number at d)) → T (inside d .turning)
   unfolding answer
   gates-ask t =
-      let (dark, turns) = and-yes (not (any (alive d))) (turning (d .state)) (subst T (gates-by (d .state) (alive d)) t) in
-      yes-and (turning (d .state)) (not (any (alive d))) turns dark
+      let (dark, turns) = and-yes (not (any (liveWord d))) (turning (d .state)) (subst T (gates-by (d .state) (liveWord d)) t) in
+      yes-and (turning (d .state)) (not (any (liveWord d))) turns dark
 
   module _ (turns : T (inside d .turning)) where
     runs : T (turning (d .state))
-    runs = and-yes (turning (d .state)) (not (any (alive d))) turns .0
+    runs = and-yes (turning (d .state)) (not (any (liveWord d))) turns .0
 
     pub dark : T (not (inside d .faulted))
-    dark = and-yes (turning (d .state)) (not (any (alive d))) turns .1
+    dark = and-yes (turning (d .state)) (not (any (liveWord d))) turns .1
 
     pub shows-running : T (words .isRunning (words .state (answer number at d)))
     unfolding answer
@@ -47,4 +47,4 @@ module _ (number at : ℕ) (d : Drive) where
 
     pub shows-turning : T (words .turns (answer number at d))
     unfolding answer
-    shows-turning = rw (gates-by (d .state) (alive d)) (yes-and (not (any (alive d))) (turning (d .state)) dark runs)
+    shows-turning = rw (gates-by (d .state) (liveWord d)) (yes-and (not (any (liveWord d))) (turning (d .state)) dark runs)

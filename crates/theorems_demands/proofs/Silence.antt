@@ -5,7 +5,7 @@ use mathlib.Core.List.{List, [], _∷_, _++_, append-nil}
 use Prim.Native.Nat.{ℕ, zero, suc, _+_, _≤_, min}
 use native.Mathlib.Omega.{arith}
 use lib.Dec.{leb, lit≤}
-use lib.IntN.{pos, negsuc}
+use lib.IntN.{negsuc}
 use lib.ListN.{length, replicate, length-append, length-replicate}
 use borrow.Author.Tests.{lt-leb}
 use Rattle.theorems_history.specs.Log.{stateAfter, entry, log}
@@ -16,7 +16,10 @@ use Rattle.numbers.specs.Count.{up}
 use Rattle.drive.specs.AnyCall.{reply}
 use Rattle.hall.specs.declared.fate.Kept.the-variants.{Pattern}
 use Rattle.states.specs.declared.State.the-variants.{Stop, Fault}
-use Rattle.drive.specs.Flags.{none}
+use Rattle.faults.specs.Word.{flag}
+use Rattle.motor.specs.Counts.{atRest}
+use Rattle.drive.specs.Offsets.{zero as zeroes}
+use Rattle.drive.specs.Calls.{fresh, becomes}
 use Rattle.drive.specs.declared.Drive.{Drive}
 use Rattle.theorems_reached.specs.Machine.{machine}
 use Rattle.theorems_demands.proofs.Computes.{computes}
@@ -34,29 +37,11 @@ turns-by-command = refl
 -- the tripped drive at its n-th tick in FAULT, written out, and what the onlooker remembers then
 abbrev faulted : ℕ → Drive
 faulted n =
-    record {
-      state = Fault;
-      settings = settingsWith 1 0;
-      hall = record { kept = Pattern 1; position = 0; angle = negsuc 5461; «dead_streak» = 0; «stray_streak» = 0; «still_count» = 66 };
-      flags =
-          record {
-            kill = false;
-            critical = false;
-            over = true;
-            under = false;
-            flux = false;
-            heat = false;
-            lock = false;
-            timeout = false;
-            hall = false;
-          };
-      cycles = 0;
-      ticks = n;
-      offsets = record { measured = true; value = record { first = 0; second = 0 }; sum = record { first = 0; second = 0 } };
-      run = record { slots = record { ticks = 0; bad = false; «bad_slots» = 0 }; «rotor_lock_ticks» = 0; «hall_still_ticks» = 0; reference = pos 0 };
-      armed = false;
-      retries = 0;
-    }
+    becomes (fresh Fault (settingsWith 1 0)) Fault
+    (record { kept = Pattern 1; position = 0; angle = negsuc 5461; «dead_streak» = 0; «stray_streak» = 0; «still_count» = 66 })
+    (flag 2 true) 0 n
+    (record { measured = true; value = zeroes; sum = zeroes })
+    atRest false 0
 
 abbrev recalled : ℕ → Memory
 recalled n = record { numbers = settingsWith 1 0; shown = 5; waited = n; dead = 0 }
@@ -196,19 +181,7 @@ the-foremans-page = all-of-it 9999 (lit≤ tt) refl
 
 -- the drive after the clear, when so many ticks in STOP are counted
 abbrev stopped : ℕ → Drive
-stopped n =
-    record {
-      state = Stop;
-      settings = settingsWith 1 0;
-      hall = faulted 0 .hall;
-      flags = none;
-      cycles = 0;
-      ticks = n;
-      offsets = faulted 0 .offsets;
-      run = faulted 0 .run;
-      armed = false;
-      retries = 0;
-    }
+stopped n = becomes (faulted 0) Stop (faulted 0 .hall) 0 0 n (faulted 0 .offsets) (faulted 0 .run) false 0
 
 clears : reply (faulted 0) clear .drive ≡ stopped 0
 unfolding computes

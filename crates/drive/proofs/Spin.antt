@@ -1,31 +1,28 @@
 -- "A reverse spin judged by signed speed", an error that a bench has met: a tick answers the same whichever way the shaft turns, but for
 -- the speed reference, which takes the measured speed with its sign when MOTORRUN is entered.
 use mathlib.Core.Path.{_≡_, refl, ap, _∙_}
-use mathlib.Core.Bool.{Bool, true, false, _&&_, not, cond}
-use Prim.Native.Nat.{zero, suc}
+use mathlib.Core.Bool.{Bool, true, false, cond}
+use Prim.Native.Nat.{ℕ}
 use lib.Dec.{eqb}
-use lib.IntN.{ℤ, pos, negsuc, negℤ, natAbs}
-use Rattle.states.specs.States.{is, turning}
-use Rattle.states.specs.declared.State.{State}
-use Rattle.states.specs.declared.State.the-variants.{Idle, Stop, OffsetCal, BtsCharge, MotorRun, Fault, CatchSpin, Parking, OpenLoop}
-use Rattle.states.specs.declared.State.the-variants.{AngleSensing}
+use lib.IntN.{pos, negℤ}
+use Rattle.faults.specs.Word.{_or_}
+use Rattle.states.specs.States.{is}
 use Rattle.fields.specs.declared.Tick.{Tick}
 use Rattle.motor.specs.Counts.{watched}
 use Rattle.motor.specs.declared.Watched.{Watched}
-use Rattle.moves.specs.Moves.{fromCatchSpin, fromOpenLoop, own, moveOf}
-use Rattle.moves.specs.declared.Grounds.{Grounds}
+use Rattle.moves.specs.Moves.{moveOf}
 use Rattle.moves.specs.declared.Move.{Move}
 use Rattle.moves.specs.declared.Move.the-variants.{Stay, Enter, Measure, Clear, Retry}
+use Rattle.moves.proofs.Spin.{same-size, spun, move-same}
 use Rattle.verdicts.specs.Table.{verdict}
 use Rattle.verdicts.specs.declared.Verdict.{Verdict}
-use Rattle.drive.specs.Flags.{either}
 use Rattle.drive.specs.Causes.{causes}
 use Rattle.drive.specs.Answer.{answer, reply}
 use Rattle.drive.specs.Refusals.{tickRows}
-use Rattle.drive.specs.Calls.{watch, standing, raised, arms, grounds, chosen, moved, ticked, tick, settle}
+use Rattle.drive.specs.Calls.{settle}
+use Rattle.drive.specs.Ticks.{watch, standing, raised, armedBy, nth, grounds, chosen, moved, ticked, tick}
 use Rattle.drive.specs.declared.Drive.{Drive}
-use Rattle.drive.specs.declared.flags.Flags.{Flags}
 use Rattle.drive.specs.declared.answer.Answer.{Answer}
 
 -- the same tick with the shaft turning the other way
 abbrev pub reversed : Tick → Tick
@@ -60,51 +57,6 @@ butReference a =
       retries = a .retries;
     }
 
-same-size : (z : ℤ) → natAbs (negℤ z) ≡ natAbs z
-same-size (pos zero) = refl
-same-size (pos (suc n)) = refl
-same-size (negsuc n) = refl
-
--- ---- the move
-
-abbrev spun : Grounds → Grounds
-spun g =
-    record {
-      state = g .state;
-      settings = g .settings;
-      cycles = g .cycles;
-      measured = g .measured;
-      armed = g .armed;
-      retries = g .retries;
-      nth = g .nth;
-      clear = g .clear;
-      speed = negℤ (g .speed);
-      low = g .low;
-      high = g .high;
-      tripped = g .tripped;
-      blocked = g .blocked;
-    }
-
-own-same : (g : Grounds) (state : State) → own (spun g) state ≡ own g state
-own-same g Idle = refl
-own-same g Stop = refl
-own-same g OffsetCal = refl
-own-same g BtsCharge = refl
-own-same g MotorRun = refl
-own-same g Fault = refl
-own-same g CatchSpin = ap (fromCatchSpin (g .settings) (g .nth)) (same-size (g .speed))
-own-same g Parking = refl
-own-same g OpenLoop = ap (fromOpenLoop (g .settings)) (same-size (g .speed))
-own-same g AngleSensing = refl
-
-move-same : (g : Grounds) → moveOf (spun g) ≡ moveOf g
-unfolding moveOf
-move-same g =
-    ap (λ (move : Move). cond (not (is 5 (g .state)) && g .tripped) (Enter Fault) (cond (turning (g .state) && g .low) (Enter Stop) move))
-    (own-same g (g .state))
-
--- ---- the tick
-
 module _ (d : Drive) (t : Tick) where
   rows-same : verdict (tickRows d (reversed t)) ≡ verdict (tickRows d t)
   rows-same = rw (same-size (t .speed))
@@ -119,30 +71,31 @@ module _ (d : Drive) (t : Tick) where
 
   chosen-same : chosen d (reversed t) ≡ chosen d t
   chosen-same =
-      ap (λ (f : Flags). moveOf (spun (grounds d t f (either (d .flags) f)))) standing-same
+      ap (λ (f : ℕ). moveOf (spun (grounds d t f (d .flags or f)))) standing-same
       ∙ move-same (grounds d t (standing d t) (raised d t))
+
+  -- what a move shows but for the reference
+  abbrev shown : Tick → Watched → ℕ → Move → Answer
+  shown tick w flags move = butReference (answer 0 0 (moved d tick w flags (armedBy d t) (nth d) move))
 
   -- the same move, with the same counts and flags, shows the same
   moved-same :
-      (w : Watched) (flags : Flags) (armed : Bool) (move : Move)
-      → butReference (answer 0 0 (moved d (reversed t) w flags armed move)) ≡ butReference (answer 0 0 (moved d t w flags armed move))
+      (w : Watched) (flags : ℕ) (move : Move)
+      → shown (reversed t) w flags move ≡ shown t w flags move
   unfolding answer
-  moved-same w flags armed Stay = refl
-  moved-same w flags armed (Enter state) = refl
-  moved-same w flags armed Measure = refl
-  moved-same w flags armed Clear = refl
-  moved-same w flags armed Retry = refl
+  moved-same w flags Stay = refl
+  moved-same w flags (Enter state) = refl
+  moved-same w flags Measure = refl
+  moved-same w flags Clear = refl
+  moved-same w flags Retry = refl
 
   ticked-same : butReference (answer 0 0 (ticked d (reversed t))) ≡ butReference (answer 0 0 (ticked d t))
   unfolding ticked
   ticked-same =
       ap (λ (w : Watched). shown (reversed t) w (raised d (reversed t)) (chosen d (reversed t))) watch-same
-      ∙ ap (λ (f : Flags). shown (reversed t) (watch d t) (either (d .flags) f) (chosen d (reversed t))) standing-same
+      ∙ ap (λ (f : ℕ). shown (reversed t) (watch d t) (d .flags or f) (chosen d (reversed t))) standing-same
       ∙ ap (shown (reversed t) (watch d t) (raised d t)) chosen-same
-      ∙ moved-same (watch d t) (raised d t) (arms d t) (chosen d t)
-    where
-      shown : Tick → Watched → Flags → Move → Answer
-      shown tick w flags move = butReference (answer 0 0 (moved d tick w flags (arms d t) move))
+      ∙ moved-same (watch d t) (raised d t) (chosen d t)
 
   settled-same :
       (accepted : Bool) (v : Verdict) (next other : Drive)
