@@ -13,9 +13,9 @@ use Rattle.states.specs.States.{is}
 use Rattle.states.specs.declared.State.{State}
 use Rattle.states.specs.declared.State.the-variants.{Idle, Stop, BtsCharge, MotorRun}
 use Rattle.fields.specs.declared.Tick.{Tick}
-use Rattle.drive.specs.Flags.{none}
 use Rattle.drive.specs.Answer.{gateOf, reply as replied}
-use Rattle.drive.specs.Calls.{fresh, arrive, retried}
+use Rattle.drive.specs.Calls.{fresh}
+use Rattle.drive.specs.Ticks.{arrive, retriedTrip}
 use Rattle.drive.specs.AnyCall.{Call, loads, cycles, ticks, reply}
 use Rattle.drive.specs.declared.Drive.{Drive}
 use Rattle.drive.specs.declared.answer.Answer.{Answer}
@@ -135,7 +135,7 @@ gateRests d (ticks fields) = reply d (ticks fields)
 
 -- moved to a state, with no flag and all else as it was
 abbrev put : State → Drive → Drive
-put state d = arrive d state none (d .offsets) (d .run) (d .armed) (d .retries)
+put state d = arrive d state 0 (d .offsets) (d .run) (d .armed) (d .retries)
 
 -- FAULT shows no flag, and a tick in it runs on with no start
 abbrev tripsInSilence : Replies
@@ -180,7 +180,7 @@ leavesByALoad d (ticks fields) = reply d (ticks fields)
 abbrev retriesAtOnce : Replies
 retriesAtOnce d (loads numbers) = reply d (loads numbers)
 retriesAtOnce d (cycles fields) = reply d (cycles fields)
-retriesAtOnce d (ticks fields) = cond (is 5 (d .state)) (replied 0 0 (retried d)) (reply d (ticks fields))
+retriesAtOnce d (ticks fields) = cond (is 5 (d .state)) (replied 0 0 (retriedTrip d)) (reply d (ticks fields))
 
 -- ---- the runs
 

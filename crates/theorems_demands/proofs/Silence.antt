@@ -16,7 +16,6 @@ use Rattle.numbers.specs.Count.{up}
 use Rattle.drive.specs.AnyCall.{reply}
 use Rattle.hall.specs.declared.fate.Kept.the-variants.{Pattern}
 use Rattle.states.specs.declared.State.the-variants.{Stop, Fault}
-use Rattle.faults.specs.Word.{flag}
 use Rattle.motor.specs.Counts.{atRest}
 use Rattle.drive.specs.Offsets.{zero as zeroes}
 use Rattle.drive.specs.Calls.{fresh, becomes}
@@ -34,12 +33,12 @@ turns-by-command = refl
 
 -- ---- the wait for a retry
 
--- the tripped drive at its n-th tick in FAULT, written out, and what the onlooker remembers then
+-- the tripped drive at its n-th tick in FAULT, written out (flag 2 alone is the word 4), and what the onlooker remembers then
 abbrev faulted : ℕ → Drive
 faulted n =
     becomes (fresh Fault (settingsWith 1 0)) Fault
     (record { kept = Pattern 1; position = 0; angle = negsuc 5461; «dead_streak» = 0; «stray_streak» = 0; «still_count» = 66 })
-    (flag 2 true) 0 n
+    4 0 n
     (record { measured = true; value = zeroes; sum = zeroes })
     atRest false 0
 
