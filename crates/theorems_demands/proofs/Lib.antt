@@ -9,7 +9,7 @@ pub mod Clauses
 pub mod Refused
 pub mod Computes
 pub mod Bench
-pub mod Silence
-pub mod Liars
+pub mod NamedRuns
+pub mod WrongDrives
 mod Grown
 pub mod Stream

@@ -1,5 +1,5 @@
 pub mod Supervised
 pub mod NamedCalls
 pub mod Bench
-pub mod Silence
+pub mod NamedRuns
 pub mod Stream

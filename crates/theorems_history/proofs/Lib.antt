@@ -5,4 +5,4 @@ pub mod Since
 pub mod Judges
 -- Examples, which nothing cites.
 pub mod Toy
-pub mod Teeth
+pub mod BadHabits

@@ -23,7 +23,7 @@ use Rattle.drive.specs.declared.Drive.{Drive}
 use Rattle.theorems_reached.specs.Machine.{machine}
 use Rattle.theorems_demands.proofs.Computes.{computes}
 use Rattle.theorems_demands.specs.NamedCalls.{settingsWith, high, clear}
-use Rattle.theorems_demands.specs.Silence.{noted, turned, tripped, waited, triedAgain, foremansPage, held}
+use Rattle.theorems_demands.specs.NamedRuns.{noted, turned, tripped, waited, triedAgain, foremansPage, held}
 use Rattle.theorems_demands.specs.Supervised.{words}
 
 -- A raised command turns the pump.
