@@ -1,7 +1,8 @@
 -- Tests joined by "and", "or" and "not", taken apart and put together, where the kit has no law of its own (mir.Facts).
-use mathlib.Core.Bool.{Bool, true, false, not, _&&_, _||_, cond}
+use mathlib.Core.Path.{_≡_, refl}
+use mathlib.Core.Bool.{Bool, true, false, not, _&&_, _||_, cond, Bool·beq}
 use lib.Dec.{T, T-not}
-use mir.Facts.{yes-and}
+use mir.Facts.{and-yes, yes-and}
 
 pub or-left : (a b : Bool) → T a → T (a || b)
 or-left true b p = tt
@@ -58,6 +59,22 @@ pub by-test :
     → P (cond test a b)
 by-test P true passed failed = passed tt
 by-test P false passed failed = failed tt
+
+-- where the first passes, the second does
+pub follows : (a b : Bool) → T (not a || b) → T a → T b
+follows true b t passes = t
+follows false b t passes = absurd passes
+
+pub all-three : (a b c : Bool) → T (a && b && c) → T a × T b × T c
+all-three true b c t = let (second, third) = and-yes b c t in (tt, second, third)
+all-three false b c t = absurd t
+
+-- two tests that agree are equal
+pub agreed : (a b : Bool) → T (Bool·beq a b) → a ≡ b
+agreed true true t = refl
+agreed true false t = absurd t
+agreed false true t = absurd t
+agreed false false t = refl
 
 -- how joined tests are put together, for `search`
 pub ruleset joins = (yes-and, or-left, or-right, nor, not-not)

@@ -1,22 +1,19 @@
 -- The clauses of demand 3, one by one, of this drive after any calls and one more.
-use mathlib.Core.Bool.{Bool, true, false, not, _&&_, _||_}
+use mathlib.Core.Bool.{Bool, not, _&&_, _||_}
 use mathlib.Core.List.{List, _∷_}
 use Prim.Native.Nat.{_≤_}
 use lib.Dec.{T, leb→le}
 use mir.Facts.{and-yes}
+use Rattle.numbers.proofs.Tests.{follows, all-three}
 use Rattle.theorems_history.specs.Log.{stateAfter, entry, log}
 use Rattle.theorems_history.specs.Onlooker.{memoryOf, note, notes}
 use Rattle.theorems_history.specs.History.{Seen, since, holds, gatesRule, exitRule, retryRule, faultStanding, startTaken, permitted, beforeStart}
-use Rattle.theorems_history.specs.History.{lowSince, retrySince, everLoaded, retries, whenever}
+use Rattle.theorems_history.specs.History.{lowSince, retrySince, everLoaded, retries}
 use Rattle.theorems_history.proofs.Since.{quiet, no-fault-since}
 use Rattle.drive.specs.AnyCall.{Call}
 use Rattle.theorems_reached.specs.Machine.{machine}
 use Rattle.theorems_demands.specs.Supervised.{words}
 use Rattle.theorems_demands.proofs.Lawful.{drive-demand3}
-
-so : (a b : Bool) → T (whenever a b) → T a → T b
-so true b t given = t
-so false b t given = absurd given
 
 module _ (call : Call) (earlier : List Call) where
   -- the onlooker's note of the newest call and its answer, and all that he noted before
@@ -32,9 +29,7 @@ module _ (call : Call) (earlier : List Call) where
   rules =
       let all : Bool = gatesRule (now ∷ past) && exitRule (now ∷ past) && retryRule (now ∷ past) in
       let (three, before) = and-yes all (holds past) (drive-demand3 (call ∷ earlier)) in
-      let (two, third) = and-yes (gatesRule (now ∷ past) && exitRule (now ∷ past)) (retryRule (now ∷ past)) three in
-      let (first, second) = and-yes (gatesRule (now ∷ past)) (exitRule (now ∷ past)) two in
-      (first, second, third)
+      all-three (gatesRule (now ∷ past)) (exitRule (now ∷ past)) (retryRule (now ∷ past)) three
 
   -- "if the gates charge or drive, .."
   module _ (turns : T (now .turns)) where
@@ -44,9 +39,7 @@ module _ (call : Call) (earlier : List Call) where
         let dark : Bool = not (faultStanding (now ∷ past)) in
         let taken : Bool = startTaken (now ∷ past) in
         let allowed : Bool = permitted (beforeStart (now ∷ past)) in
-        let (two, third) = and-yes (dark && taken) allowed (so (now .turns) (dark && taken && allowed) (rules .0) turns) in
-        let (first, second) = and-yes dark taken two in
-        (first, second, third)
+        all-three dark taken allowed (follows (now .turns) (dark && taken && allowed) (rules .0) turns)
 
     -- ".. no live fault stands"
     pub no-live-fault : T (not (faultStanding (now ∷ past)))
@@ -74,9 +67,7 @@ module _ (call : Call) (earlier : List Call) where
         let free : Bool = not (now .causeStood || now .liveShown) in
         let way : Bool = now .clear || now .due in
         let trip : Bool = faultStanding past in
-        let (two, third) = and-yes (free && way) trip (so (now .exited) (free && way && trip) (rules .1) exited) in
-        let (first, second) = and-yes free way two in
-        (first, second, third)
+        all-three free way trip (follows (now .exited) (free && way && trip) (rules .1) exited)
 
     pub no-cause-at-exit : T (not (now .causeStood || now .liveShown))
     no-cause-at-exit = exits .0

@@ -1,6 +1,6 @@
 -- The Hall part stays within its bounds: each count is capped where it grows, and only a pattern of the clockwise order is kept.
 use mathlib.Core.Path.{_≡_, refl}
-use mathlib.Core.Bool.{Bool, true, false, not, _||_, cond}
+use mathlib.Core.Bool.{Bool, true, false, not, _||_, cond, Bool·beq}
 use Prim.Native.Nat.{ℕ, _^_, _≤_, _<_}
 use native.Mathlib.Omega.{arith}
 use lib.Dec.{T, eqb}
@@ -20,7 +20,7 @@ use Rattle.hall.specs.declared.fate.Fate.the-variants.{Dead, First, Same, Forwa
 use Rattle.hall.specs.declared.fate.Kept.{Kept}
 use Rattle.hall.specs.declared.fate.Kept.the-variants.{Nothing, Pattern}
 use Rattle.theorems_reached.specs.Reached.{Known, HallWithin}
-use Rattle.numbers.proofs.Tests.{by-test}
+use Rattle.numbers.proofs.Tests.{by-test, agreed}
 use Rattle.numbers.proofs.Table.{at}
 
 pub hall-power-up : HallWithin poweredUp
@@ -143,20 +143,10 @@ dead-flagged hall pattern offset = by-fate (fate pattern (hall .kept))
     by-fate Stray two = absurd (omega arith)
 
 -- of the patterns 0 to 7, those outside the clockwise order are 0 and 7: tested at all eight
-abbrev agree : Bool → Bool → Bool
-agree true b = b
-agree false b = not b
-
-agreed : (a b : Bool) → T (agree a b) → a ≡ b
-agreed true true t = refl
-agreed true false t = absurd t
-agreed false true t = absurd t
-agreed false false t = refl
-
 outside-the-order : (p : ℕ) → p ≤ 7 → not (eqb p 0 || eqb p 7) ≡ among clockwise p
 outside-the-order p small =
     agreed (not (eqb p 0 || eqb p 7)) (among clockwise p)
-    (at (λ p (any : Bool). agree (not (eqb p 0 || eqb p 7)) (among clockwise p)) (replicate 8 true) true tt p (omega arith))
+    (at (λ p (any : Bool). Bool·beq (not (eqb p 0 || eqb p 7)) (among clockwise p)) (replicate 8 true) true tt p (omega arith))
 
 -- "0 or 7: dead streak up by one, at most 2"; any other leaves it at zero
 module _ (hall : Hall) (p : ℕ) (offset : ℤ) where
