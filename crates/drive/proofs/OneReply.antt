@@ -9,6 +9,9 @@ power-up κs given r s p q = same (p ∙⁻¹ q) refl
 pub load : OneReply promises.Drive.load.ended promises.Drive.load.Reads.Post
 load κs given r s p q = same (p ∙⁻¹ q) refl
 
+pub load-settings : OneReply promises.Drive.load_settings.ended promises.Drive.load_settings.Reads.Post
+load-settings κs given r s p q = same (p ∙⁻¹ q) refl
+
 pub cycle : OneReply promises.Drive.cycle.ended promises.Drive.cycle.Reads.Post
 cycle κs given r s p q = same (p ∙⁻¹ q) refl
 
