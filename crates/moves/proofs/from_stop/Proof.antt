@@ -3,17 +3,5 @@ use borrow.Author.Needs.{needs}
 use Rattle.moves.proofs.from_stop.Statement.{statement}
 use Rattle.moves.proofs.from_stop.Tie as tie
 
-returns : tie.Need-returns
-returns c =
-    rw (
-      c .pick-move2 .ensures,
-      c .before .pick-move .ensures,
-    )
-
 pub from-stop-spec : {M : Type 1} → statement M
-from-stop-spec =
-    tie.close
-    (tie.spec
-    (λ c κs. search needs)
-    (λ c κs. search needs)
-    returns)
+from-stop-spec = tie.close (tie.spec (λ c κs. search needs) (λ c κs. search needs) (λ c. cc))

@@ -3,11 +3,6 @@ use borrow.Author.Needs.{needs}
 use Rattle.settings.proofs.rule.Statement.{statement}
 use Rattle.settings.proofs.rule.Tie as tie
 
-returns : tie.Need-returns
-returns c =
-    rw
-    (c .related .ensures)
-
 pub rule-spec : {M : Type 1} → statement M
 rule-spec =
     tie.close
@@ -20,4 +15,4 @@ rule-spec =
     (λ c. search needs)
     (λ c. search needs)
     (λ c κs. search needs)
-    returns)
+    (λ c. cc))

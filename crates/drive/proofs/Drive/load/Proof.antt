@@ -20,7 +20,7 @@ refuses false next d = refl
 
 returns : tie.Need-returns
 unfolding load
-returns c = rw (c .load-settings .ensures, c .before .copied .ensures)
+returns c = cc
 
 returns-2 : tie.Need-returns-2
 unfolding load

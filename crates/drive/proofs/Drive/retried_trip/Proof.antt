@@ -3,19 +3,6 @@ use borrow.Author.Needs.{needs}
 use Rattle.drive.proofs.Drive.retried_trip.Statement.{statement}
 use Rattle.drive.proofs.Drive.retried_trip.Tie as tie
 
-returns : tie.Need-returns
-returns c =
-    rw (
-      c .arrive .ensures,
-      c .before .retried .ensures,
-    )
-
 pub retried-trip-spec : {M : Type 1} → statement M
 retried-trip-spec =
-    tie.close
-    (tie.spec
-    (λ c. search needs)
-    (λ c. search needs)
-    (λ c κs. search needs)
-    (λ c κs. search needs)
-    returns)
+    tie.close (tie.spec (λ c. search needs) (λ c. search needs) (λ c κs. search needs) (λ c κs. search needs) (λ c. cc))

@@ -3,13 +3,5 @@ use borrow.Author.Needs.{needs}
 use Rattle.drive.proofs.Drive.stayed.Statement.{statement}
 use Rattle.drive.proofs.Drive.stayed.Tie as tie
 
-returns : tie.Need-returns
-returns c = cc
-
 pub stayed-spec : {M : Type 1} → statement M
-stayed-spec =
-    tie.close
-    (tie.spec
-    (λ c κs. search needs)
-    (λ c κs. search needs)
-    returns)
+stayed-spec = tie.close (tie.spec (λ c κs. search needs) (λ c κs. search needs) (λ c. cc))

@@ -3,15 +3,6 @@ use borrow.Author.Needs.{needs}
 use Rattle.drive.proofs.Drive.summed.Statement.{statement}
 use Rattle.drive.proofs.Drive.summed.Tie as tie
 
-returns : tie.Need-returns
-returns c =
-    rw (
-      c .pick-offsets .ensures,
-      c .before .added .ensures,
-      c .before .before .before .samples .ensures,
-      c .before .before .before .before .number .ensures,
-    )
-
 pub summed-spec : {M : Type 1} → statement M
 summed-spec =
     tie.close
@@ -21,4 +12,4 @@ summed-spec =
     (λ c κs. search needs)
     (λ c κs. search needs)
     (λ c κs. search needs)
-    returns)
+    (λ c. cc))

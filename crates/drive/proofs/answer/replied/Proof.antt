@@ -3,12 +3,5 @@ use borrow.Author.Needs.{needs}
 use Rattle.drive.proofs.answer.replied.Statement.{statement}
 use Rattle.drive.proofs.answer.replied.Tie as tie
 
-returns : tie.Need-returns
-returns c = cc
-
 pub replied-spec : {M : Type 1} → statement M
-replied-spec =
-    tie.close
-    (tie.spec
-    (λ c κs. search needs)
-    returns)
+replied-spec = tie.close (tie.spec (λ c κs. search needs) (λ c. cc))

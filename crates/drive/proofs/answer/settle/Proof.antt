@@ -11,10 +11,4 @@ returns-2 : tie.Need-returns-2
 returns-2 c = rw (ne-eqb _ 0 (c .before .if1 .left)) (c .replied2 .ensures)
 
 pub settle-spec : {M : Type 1} → statement M
-settle-spec =
-    tie.close
-    (tie.spec
-    (λ c κs. search needs)
-    returns
-    (λ c κs. search needs)
-    returns-2)
+settle-spec = tie.close (tie.spec (λ c κs. search needs) returns (λ c κs. search needs) returns-2)

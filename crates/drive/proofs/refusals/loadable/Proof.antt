@@ -3,17 +3,5 @@ use borrow.Author.Needs.{needs}
 use Rattle.drive.proofs.refusals.loadable.Statement.{statement}
 use Rattle.drive.proofs.refusals.loadable.Tie as tie
 
-returns : tie.Need-returns
-returns c =
-    rw (
-      c .first .ensures,
-      c .before .number .ensures,
-    )
-
 pub loadable-spec : {M : Type 1} → statement M
-loadable-spec =
-    tie.close
-    (tie.spec
-    (λ c κs. search needs)
-    (λ c κs. search needs)
-    returns)
+loadable-spec = tie.close (tie.spec (λ c κs. search needs) (λ c κs. search needs) (λ c. cc))

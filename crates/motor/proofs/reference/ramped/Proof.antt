@@ -22,5 +22,4 @@ returns c =
 
 pub ramped-spec : {M : Type 1} → statement M
 ramped-spec =
-    tie.close
-    (tie.spec (λ c. search needs) (λ c κs. search needs) times-2048-requires (λ c κs. search needs) returns)
+    tie.close (tie.spec (λ c. search needs) (λ c κs. search needs) times-2048-requires (λ c κs. search needs) returns)

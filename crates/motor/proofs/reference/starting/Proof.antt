@@ -14,8 +14,4 @@ returns c =
     )
 
 pub starting-spec : {M : Type 1} → statement M
-starting-spec =
-    tie.close
-    (tie.spec
-    (λ c κs. search needs)
-    returns)
+starting-spec = tie.close (tie.spec (λ c κs. search needs) returns)

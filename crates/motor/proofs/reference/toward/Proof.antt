@@ -120,8 +120,7 @@ cast-below : tie.Need-cast-below
 cast-below c = rw (toZ-ofZ (c .before .fits .reference)) (reference-wide (c .before))
 
 sub-below : tie.Need-sub-below
-sub-below c =
-    rw (toZ-ofZ (c .before .fits .reference), toZ-ofZ (reference-wide (c .before)), rate (c .before))
+sub-below c = rw (toZ-ofZ (c .before .fits .reference), toZ-ofZ (reference-wide (c .before)), rate (c .before))
     (below-wide (c .before))
 
 cast-result-2 : tie.Need-cast-result-2

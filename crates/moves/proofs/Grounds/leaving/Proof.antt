@@ -3,9 +3,6 @@ use borrow.Author.Needs.{needs}
 use Rattle.moves.proofs.Grounds.leaving.Statement.{statement}
 use Rattle.moves.proofs.Grounds.leaving.Tie as tie
 
-returns : tie.Need-returns
-returns c = rw (c .out-of .ensures, c .before .from-fault .ensures)
-
 pub leaving-spec : {M : Type 1} → statement M
 leaving-spec =
     tie.close
@@ -15,4 +12,4 @@ leaving-spec =
     (λ c. search needs)
     (λ c κs. search needs)
     (λ c κs. search needs)
-    returns)
+    (λ c. cc))

@@ -6,14 +6,7 @@ use Rattle.moves.proofs.Grounds.move_of.Tie as tie
 
 returns : tie.Need-returns
 unfolding moveOf
-returns c =
-    rw (
-      c .pick-move2 .ensures,
-      c .before .before .number .ensures,
-      c .before .before .before .pick-move .ensures,
-      c .before .before .before .before .own-move .ensures,
-      c .before .before .before .before .before .before .is-turning .ensures,
-    )
+returns c = cc
 
 pub move-of-spec : {M : Type 1} → statement M
 move-of-spec =

@@ -3,13 +3,5 @@ use borrow.Author.Needs.{needs}
 use Rattle.drive.proofs.offsets.Offsets.added.Statement.{statement}
 use Rattle.drive.proofs.offsets.Offsets.added.Tie as tie
 
-returns : tie.Need-returns
-returns c = cc
-
 pub added-spec : {M : Type 1} → statement M
-added-spec =
-    tie.close
-    (tie.spec
-    (λ c κs. search needs)
-    (λ c κs. search needs)
-    returns)
+added-spec = tie.close (tie.spec (λ c κs. search needs) (λ c κs. search needs) (λ c. cc))
