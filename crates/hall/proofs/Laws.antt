@@ -1,4 +1,4 @@
--- Laws of the definitions, proved once: a step and the step back, a full turn, what the angle after a step depends on, and the offset's sign.
+-- Laws of the definitions: a step and the step back, a full turn, what the angle after a step depends on, and the offset's sign.
 use mathlib.Core.Path.{_≡_, refl, sym, ap, _∙_, subst}
 use mathlib.Core.Bool.{Bool, true, false, cond}
 use mathlib.Core.List.{List, [], _∷_}
@@ -7,7 +7,7 @@ use native.Mathlib.Omega.{arith}
 use lib.Dec.{T, eqb}
 use lib.IntN.{ℤ, pos, negsuc, +ℤ-idr}
 use mir.Syntax.{w16}
-use mir.Val.{SFits, ofZ}
+use mir.Val.{SFits, ofZ, toZ}
 use mir.Facts.{toZ-ofZ, sfits-toZ}
 use borrow.Author.Tests.{eqb-true}
 use Rattle.hall.specs.Fate.{clockwise, among, next, fate, beside}
@@ -48,7 +48,9 @@ Steps p = (fate (next p) (Pattern p) ≡ Forward) × (fate p (Pattern (next p)) 
 
 steps : (p : ℕ) → T (among clockwise p) → Steps p
 unfolding Steps fate beside
-steps p stands = one-of Steps clockwise ((refl, refl), ((refl, refl), ((refl, refl), ((refl, refl), ((refl, refl), ((refl, refl), tt)))))) p stands
+steps =
+    one-of Steps clockwise
+    ((refl, refl), ((refl, refl), ((refl, refl), ((refl, refl), ((refl, refl), ((refl, refl), tt))))))
 
 -- a sample of a known fate
 pub by-fate :
@@ -91,7 +93,7 @@ turned zero hall p offset = hall
 turned (suc n) hall p offset = turned n (sampled hall (next p) offset .hall) (next p) offset
 
 next-stands : (p : ℕ) → T (among clockwise p) → T (among clockwise (next p))
-next-stands p stands = one-of (λ q. T (among clockwise (next q))) clockwise (tt, (tt, (tt, (tt, (tt, (tt, tt)))))) p stands
+next-stands = one-of (λ q. T (among clockwise (next q))) clockwise (tt, (tt, (tt, (tt, (tt, (tt, tt))))))
 
 -- n steps forward are n counts.
 pub n-steps :
@@ -116,7 +118,7 @@ pub six-steps :
     → T (among clockwise p)
     → hall .kept ≡ Pattern p
     → turned 6 hall p offset .position ≡ (hall .position + 6) % 2 ^ 32
-six-steps hall p offset small stands kept = n-steps 6 hall p offset small stands kept
+six-steps = n-steps 6
 
 -- ---- the angle
 
@@ -129,7 +131,7 @@ gives-angle Forward = true
 gives-angle Back = true
 gives-angle Stray = false
 
--- The angle of a first pattern or a step depends on the pattern, the kept one and the offset, and not on the angle before or on anything else.
+-- The angle of a first pattern or a step depends on the pattern, the kept one and the offset, and on nothing else.
 pub angle-fresh :
     (hall hall′ : Hall) (p : ℕ) (offset : ℤ)
     → hall .kept ≡ hall′ .kept
@@ -152,13 +154,12 @@ modulo-bits : (z : ℤ) → SFits w16 z → modulo z ≡ ofZ w16 z
 modulo-bits (pos n) fits = omega (arith, fits .sfits)
 modulo-bits (negsuc n) fits = omega (arith, fits .sfits)
 
-unturned : (z : ℤ) → SFits w16 z → withOffset z (pos 0) ≡ z
-unfolding withOffset
-unturned z fits = rw (+ℤ-idr, modulo-bits z fits) (toZ-ofZ fits)
-
-twelfth-fits : (k : ℕ) → SFits w16 (twelfth k)
-unfolding twelfth
-twelfth-fits k = sfits-toZ {n = 65536 * (k % 12) / 12} (record { fits = omega arith })
+-- an offset of 0 leaves the angles of the table as they are
+unturned : (k : ℕ) → withOffset (twelfth k) (pos 0) ≡ twelfth k
+unfolding withOffset twelfth
+unturned k =
+    let fits = sfits-toZ {w = w16} {n = 65536 * (k % 12) / 12} (record { fits = omega arith }) in
+    rw (+ℤ-idr, modulo-bits (toZ w16 (65536 * (k % 12) / 12)) fits) (toZ-ofZ fits)
 
 -- The offset's sign: the angle with offset o is the angle with offset 0 plus o, modulo 2^16.
 pub offset-added :
@@ -170,8 +171,8 @@ offset-added hall p offset gives = go (fate p (hall .kept)) gives
   where
     go : (f : Fate) → T (gives-angle f) → after hall p offset f .hall .angle ≡ withOffset (after hall p (pos 0) f .hall .angle) offset
     go Dead gives = absurd gives
-    go First gives = ap (λ (z : ℤ). withOffset z offset) (sym (unturned _ (twelfth-fits _)))
+    go First gives = rw unturned
     go Same gives = absurd gives
-    go Forward gives = ap (λ (z : ℤ). withOffset z offset) (sym (unturned _ (twelfth-fits _)))
-    go Back gives = ap (λ (z : ℤ). withOffset z offset) (sym (unturned _ (twelfth-fits _)))
+    go Forward gives = rw unturned
+    go Back gives = rw unturned
     go Stray gives = absurd gives

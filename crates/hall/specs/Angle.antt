@@ -17,7 +17,8 @@ twelfth k = toZ w16 (65536 * (k % 12) / 12)
 abbrev pub table : List ℤ
 table =
     pos 0 ∷ pos 5461 ∷ pos 10922 ∷ pos 16384 ∷ pos 21845 ∷ pos 27306 ∷
-    negℤ (pos 32768) ∷ negℤ (pos 27307) ∷ negℤ (pos 21846) ∷ negℤ (pos 16384) ∷ negℤ (pos 10923) ∷ negℤ (pos 5462) ∷ []
+    negℤ (pos 32768) ∷ negℤ (pos 27307) ∷ negℤ (pos 21846) ∷
+    negℤ (pos 16384) ∷ negℤ (pos 10923) ∷ negℤ (pos 5462) ∷ []
 
 -- "Middles for 1, 3, 2, 6, 4, 5: k = 11, 1, 3, 5, 7, 9."
 abbrev pub middles : List ℕ

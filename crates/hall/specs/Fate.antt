@@ -1,4 +1,5 @@
--- Document 01, "Cycle": "Clockwise order is 1, 3, 2, 6, 4, 5, then 1. Each pattern from 0 to 7 falls in one group against the kept pattern".
+-- Document 01, "Cycle": "Clockwise order is 1, 3, 2, 6, 4, 5, then 1. Each pattern from 0 to 7 falls in one group against the kept
+-- pattern".
 use Prim.Native.Nat.{ℕ}
 use mathlib.Core.Bool.{Bool, true, false, cond}
 use mathlib.Core.List.{List, [], _∷_, reverse}
@@ -17,20 +18,21 @@ abbrev pub among : List ℕ → ℕ → Bool
 among [] p = false
 among (x ∷ rest) p = cond (eqb p x) true (among rest p)
 
--- what stands after the pattern in the order, whose last is followed by `first`
-abbrev pub after : ℕ → List ℕ → ℕ → ℕ
-after first [] p = p
-after first (x ∷ []) p = first
-after first (x ∷ y ∷ rest) p = cond (eqb p x) y (after first (y ∷ rest) p)
+-- what follows the pattern in the order, whose last is followed by `first`
+abbrev pub follower : ℕ → List ℕ → ℕ → ℕ
+follower first [] p = p
+follower first (x ∷ []) p = first
+follower first (x ∷ y ∷ rest) p = cond (eqb p x) y (follower first (y ∷ rest) p)
 
 -- "Next or previous" of a pattern
 abbrev pub next : ℕ → ℕ
-next p = after 1 clockwise p
+next p = follower 1 clockwise p
 
 abbrev pub previous : ℕ → ℕ
-previous p = after 5 (reverse clockwise) p
+previous p = follower 5 (reverse clockwise) p
 
--- a pattern of 1..6 and the two beside it: "with none kept"; "Same as kept"; it is the next of the kept one, or the previous; "Another of 1..6"
+-- a pattern of 1..6 and the two beside it: "with none kept"; "Same as kept"; it is the next of the kept one, or the previous;
+-- "Another of 1..6"
 unfoldable pub beside : ℕ → ℕ → ℕ → Kept → Fate
 beside behind p ahead Nothing = First
 beside behind p ahead (Pattern k) = cond (eqb k p) Same (cond (eqb k behind) Forward (cond (eqb k ahead) Back Stray))

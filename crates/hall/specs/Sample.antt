@@ -28,7 +28,15 @@ minusOne position = (position + (2 ^ 32 - 1)) % 2 ^ 32
 abbrev pub keeps : Fate → ℕ → ℕ → ℤ → Sampled
 keeps fate pattern position angle =
     record {
-      hall = record { kept = Pattern pattern; position = position; angle = angle; «dead_streak» = 0; «stray_streak» = 0; «still_count» = 0 };
+      hall =
+          record {
+            kept = Pattern pattern;
+            position = position;
+            angle = angle;
+            «dead_streak» = 0;
+            «stray_streak» = 0;
+            «still_count» = 0;
+          };
       fate = fate;
       flagged = false;
     }
@@ -62,7 +70,8 @@ deadSample hall =
     let at2 : Bool = eqb dead 2 in
     rests hall Dead (cond at2 Nothing (hall .kept)) dead 0 at2
 
--- "Another of 1..6: stray streak up, dead streak zero. At 3, flag 15 is set, the pattern is forgotten and the stray streak returns to zero."
+-- "Another of 1..6: stray streak up, dead streak zero. At 3, flag 15 is set, the pattern is forgotten and the stray streak returns to
+-- zero."
 unfoldable pub straySample : Hall → Sampled
 straySample hall =
     let stray : ℕ = up 3 (hall .«stray_streak») in

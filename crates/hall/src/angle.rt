@@ -1,10 +1,12 @@
 // The angle handed on.
+use numbers::absolute;
+use numbers::signed;
 use std::num::wrapping_add_u16;
+use std::num::wrapping_sub_u16;
 ghost use mathlib.Core.Path.{_≡_};
-ghost use lib.IntN.{_+ℤ_};
 ghost use mir.Syntax.{w16};
 ghost use mir.Val.{ofZ};
-ghost use Rattle.hall.specs.Angle.{twelfth, sectorOf, modulo, withOffset, middleWith, boundaryWith};
+ghost use Rattle.hall.specs.Angle.{twelfth, sectorOf, withOffset, middleWith, boundaryWith};
 
 // k times 30 degrees, for k from 0 to 11, where a full turn is 65536.
 const TWELFTHS: [i16; 12] = [
@@ -49,23 +51,18 @@ fn sector_of(pattern: u8) -> Sector
 fn bits(number: i16) -> u16
     ensures { λ r. ⌜ r ≡ ofZ w16 number ⌝ }
 {
+    let size = absolute(number);
     if number < 0 {
-        return ((number as i32) + 65536) as u16;
+        return wrapping_sub_u16(0, size);
     }
-    number as u16
+    size
 }
 
-// Angle and offset together: the sum of their bits, which wraps. A difference in its place is what cost the customer yarn.
-fn turned(angle: i16, offset: i16) -> u16
-    ensures { λ r. ⌜ r ≡ modulo (angle +ℤ offset) ⌝ }
-{
-    wrapping_add_u16(bits(angle), bits(offset))
-}
-
+// The sum of the bits of angle and offset, which wraps. A difference in its place is what cost the customer yarn.
 fn with_offset(angle: i16, offset: i16) -> i16
     ensures { λ r. ⌜ r ≡ withOffset angle offset ⌝ }
 {
-    numbers::signed(turned(angle, offset))
+    signed(wrapping_add_u16(bits(angle), bits(offset)))
 }
 
 // What a first pattern gives.

@@ -13,7 +13,13 @@ use Rattle.motor.specs.declared.Watched.{Watched}
 
 -- "from zero at each entry"; "other states hold 0"
 abbrev pub atRest : Run
-atRest = record { slots = record { ticks = 0; bad = false; «bad_slots» = 0 }; «rotor_lock_ticks» = 0; «hall_still_ticks» = 0; reference = pos 0 }
+atRest =
+    record {
+      slots = record { ticks = 0; bad = false; «bad_slots» = 0 };
+      «rotor_lock_ticks» = 0;
+      «hall_still_ticks» = 0;
+      reference = pos 0;
+    }
 
 -- 4: "slots of floor(5 x FluxFaultTime / 4) ticks"
 abbrev pub slotLength : ℕ → ℕ

@@ -45,7 +45,13 @@ starting t = record { slots = atRest .slots; «rotor_lock_ticks» = 0; «hall_st
 
 -- a tick that stays in MOTORRUN: the counts go on, and the reference moves toward the target
 abbrev pub ran : List ℕ → Tick → Watched → Run → Run
-ran s t w r = record { slots = w .slots; «rotor_lock_ticks» = w .«rotor_lock_ticks»; «hall_still_ticks» = w .«hall_still_ticks»; reference = ramped s t (r .reference) }
+ran s t w r =
+    record {
+      slots = w .slots;
+      «rotor_lock_ticks» = w .«rotor_lock_ticks»;
+      «hall_still_ticks» = w .«hall_still_ticks»;
+      reference = ramped s t (r .reference);
+    }
 
 -- after a tick that stays in MOTORRUN, or that enters it; "other states hold 0"
 abbrev pub after : List ℕ → Tick → Watched → Bool → Bool → Run → Run

@@ -7,7 +7,8 @@ use lib.IntN.{natAbs}
 use Rattle.settings.specs.Settings
 use Rattle.states.specs.States.{is, turning}
 use Rattle.states.specs.declared.State.{State}
-use Rattle.states.specs.declared.State.the-variants.{Idle, Stop, OffsetCal, BtsCharge, MotorRun, Fault, CatchSpin, Parking, OpenLoop, AngleSensing}
+use Rattle.states.specs.declared.State.the-variants.{Idle, Stop, OffsetCal, BtsCharge, MotorRun, Fault, CatchSpin, Parking}
+use Rattle.states.specs.declared.State.the-variants.{OpenLoop, AngleSensing}
 use Rattle.faults.specs.Exit.{fromFault}
 use Rattle.faults.specs.declared.Exit.{Exit}
 use Rattle.faults.specs.declared.Exit.the-variants.{Stay as Remain, Clear as ClearAll, Retry as TryAgain}

@@ -1,4 +1,4 @@
--- The order of the integers: what is added goes up, what is taken away goes down, and what lies between two numbers that fit a width fits it.
+-- The order of the integers: what is added goes up, what is taken away goes down, and between two numbers that fit a width all do.
 use mathlib.Core.Path.{_≡_, refl, sym, subst}
 use mathlib.Core.Bool.{Bool, true, false}
 use Prim.Native.Nat.{ℕ, zero, suc, _+_, _-_, _≤_}
@@ -36,20 +36,14 @@ goes-down (negsuc a) zero = subst (λ (z : ℤ). T (leZ z (negsuc a))) (sym (+�
 goes-down (negsuc a) (suc n) = le→leb a (suc (a + n)) (omega arith)
 
 -- what holds of two numbers holds of all between them, if with a number it holds of those of its sign that are nearer to zero
-pub between :
-    (P : ℤ → Type 0)
-    → ((n k : ℕ) → n ≤ k → P (pos k) → P (pos n))
-    → ((n k : ℕ) → n ≤ k → P (negsuc k) → P (negsuc n))
-    → (a z b : ℤ)
-    → T (leZ a z)
-    → T (leZ z b)
-    → P a
-    → P b
-    → P z
-between P above below a (pos n) (pos k) low high of-a of-b = above n k (leb→le n k high) of-b
-between P above below a (pos n) (negsuc k) low high of-a of-b = absurd high
-between P above below (pos k) (negsuc n) b low high of-a of-b = absurd low
-between P above below (negsuc k) (negsuc n) b low high of-a of-b = below n k (leb→le n k low) of-a
+module _ (P : ℤ → Type 0)
+    (above : (n k : ℕ) → n ≤ k → P (pos k) → P (pos n))
+    (below : (n k : ℕ) → n ≤ k → P (negsuc k) → P (negsuc n)) where
+  pub between : (a z b : ℤ) → T (leZ a z) → T (leZ z b) → P a → P b → P z
+  between a (pos n) (pos k) low high of-a of-b = above n k (leb→le n k high) of-b
+  between a (pos n) (negsuc k) low high of-a of-b = absurd high
+  between (pos k) (negsuc n) b low high of-a of-b = absurd low
+  between (negsuc k) (negsuc n) b low high of-a of-b = below n k (leb→le n k low) of-a
 
 pub fits-between : {w : Width} (a z b : ℤ) → T (leZ a z) → T (leZ z b) → SFits w a → SFits w b → SFits w z
 fits-between {w} =

@@ -1,5 +1,5 @@
 -- How large a sum, a difference or a quotient of integers can be, so that it fits the width that it is made in.
-use Prim.Native.Nat.{ℕ, zero, suc, _+_, _/_, _^_, _≤_, _<_, zero-le}
+use Prim.Native.Nat.{ℕ, zero, suc, _+_, _/_, _≤_, zero-le}
 use native.Mathlib.Nat.{div-le-self, le-of-suc-le-suc}
 use native.Mathlib.Omega.{arith}
 use mathlib.Core.Bool.{Bool, true, false}
@@ -7,9 +7,6 @@ use mathlib.Core.Path.{_≡_, refl}
 use lib.Dec.{ltb}
 use lib.IntN.{ℤ, pos, negsuc, subℕ, negℤ, _+ℤ_}
 use lib.Signed.{mag, quotZ}
-use mir.Syntax.{Width}
-use mir.Val.{toZ, hbits}
-use mir.Facts.{toZ-ofZ}
 
 difference : (a b : ℕ) (test : Bool) → ltb a (suc b) ≡ test → mag (subℕ a (suc b)) ≤ a + b + 1
 difference a b true e = rw e (omega arith)
@@ -29,7 +26,3 @@ mag-opposite (suc r) h = le-of-suc-le-suc h
 pub mag-quotient : (z : ℤ) (d : ℕ) → mag (quotZ z (pos d)) ≤ mag z
 mag-quotient (pos a) d = div-le-self a d
 mag-quotient (negsuc a) d = mag-opposite (suc a / d) (div-le-self (suc a) d)
-
--- a natural number that fits a signed width is read as itself
-pub natural : (w : Width) (n : ℕ) → n < 2 ^ hbits w → toZ w n ≡ pos n
-natural w n small = toZ-ofZ {w = w} {z = pos n} (record { sfits = small })

@@ -37,7 +37,9 @@ abbrev pub rule : List ℕ → ℕ → Bool
 rule s i = leb (getD lowest i 0) (getD s i 0) && leb (getD s i 0) (getD highest i 0) && related s (i + 1)
 
 abbrev pub indices : List ℕ
-indices = 0 ∷ 1 ∷ 2 ∷ 3 ∷ 4 ∷ 5 ∷ 6 ∷ 7 ∷ 8 ∷ 9 ∷ 10 ∷ 11 ∷ 12 ∷ 13 ∷ 14 ∷ 15 ∷ 16 ∷ 17 ∷ 18 ∷ 19 ∷ 20 ∷ 21 ∷ 22 ∷ 23 ∷ []
+indices =
+    0 ∷ 1 ∷ 2 ∷ 3 ∷ 4 ∷ 5 ∷ 6 ∷ 7 ∷ 8 ∷ 9 ∷ 10 ∷ 11 ∷
+    12 ∷ 13 ∷ 14 ∷ 15 ∷ 16 ∷ 17 ∷ 18 ∷ 19 ∷ 20 ∷ 21 ∷ 22 ∷ 23 ∷ []
 
 -- row 2, "a setting breaks its rule", with the place "first bad setting, from 1"
 abbrev pub settingRow : List ℕ → ℕ → Row

@@ -15,15 +15,6 @@ use Rattle.numbers.proofs.signed.Tie as tie
 lowered : (n : ℕ) → 32768 ≤ n → n < 65536 → toZ w32 n -ℤ pos 65536 ≡ toZ w16 n
 lowered n above below = rw (lt-ltb n 2147483648 (omega arith), lt-ltb n 65536 below, le-ltb n 32768 above)
 
-cast-result : tie.Need-cast-result
-cast-result c = search needs
-
-returns : tie.Need-returns
-returns c = search needs
-
-cast-result-2 : tie.Need-cast-result-2
-cast-result-2 c = search needs
-
 module _ (c : tie.Else1) where
   word : SFits w16 (toZ w16 (c .before .args .bits))
   word = sfits-toZ (c .before .fits .bits)
@@ -31,10 +22,8 @@ module _ (c : tie.Else1) where
   lower : toZ w32 (c .before .args .bits) -ℤ pos 65536 ≡ toZ w16 (c .before .args .bits)
   lower = lowered (c .before .args .bits) (c .if1 .left) (c .before .fits .bits .fits)
 
-sub-result : tie.Need-sub-result
-sub-result c =
-    let difference : SFits w32 (toZ w32 (c .before .args .bits) -ℤ pos 65536) = rw (lower c) (sfits-widen tt (word c)) in
-    difference
+  difference : SFits w32 (toZ w32 (c .before .args .bits) -ℤ pos 65536)
+  difference = rw lower (sfits-widen tt word)
 
 cast-result-3 : tie.Need-cast-result-3
 cast-result-3 c = rw (lower c, toZ-ofZ (sfits-widen {w′ = w32} tt (word c))) (word c)
@@ -43,4 +32,12 @@ returns-2 : tie.Need-returns-2
 returns-2 c = rw (lower c, toZ-ofZ (sfits-widen {w′ = w32} tt (word c)), toZ-ofZ (word c))
 
 pub signed-spec : {M : Type 1} → statement M
-signed-spec = tie.close (tie.spec cast-result returns cast-result-2 sub-result cast-result-3 returns-2)
+signed-spec =
+    tie.close
+    (tie.spec
+    (λ c. search needs)
+    (λ c. search needs)
+    (λ c. search needs)
+    difference
+    cast-result-3
+    returns-2)

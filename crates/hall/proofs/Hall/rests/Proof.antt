@@ -5,11 +5,8 @@ use borrow.Author.Needs.{needs}
 use Rattle.hall.proofs.Hall.rests.Statement.{statement}
 use Rattle.hall.proofs.Hall.rests.Tie as tie
 
-count-up-requires : tie.Need-count-up-requires
-count-up-requires c κs = search needs
-
 returns : tie.Need-returns
 returns c = rw (toZ-ofZ {w = w16} {z = c .before .before .args .self .angle} (search needs), c .before .count-up .ensures)
 
 pub rests-spec : {M : Type 1} → statement M
-rests-spec = tie.close (tie.spec count-up-requires returns)
+rests-spec = tie.close (tie.spec (λ c κs. search needs) returns)

@@ -9,10 +9,6 @@ use Rattle.hall.specs.Sample.{sampled, minusOne}
 use Rattle.hall.proofs.Hall.sampled.Statement.{statement}
 use Rattle.hall.proofs.Hall.sampled.Tie as tie
 
-returns : tie.Need-returns
-unfolding sampled
-returns c = rw (← c .before .before .before .judged .ensures, c .before .enum-told .given .1) (c .dead-sample .ensures)
-
 returns-2 : tie.Need-returns-2
 unfolding sampled
 returns-2 c =
@@ -25,10 +21,6 @@ returns-2 c =
       c .before .middle .ensures,
       toZ-ofZ {w = w16} {z = start .args .offset} (start .fits .offset),
     )
-
-returns-3 : tie.Need-returns-3
-unfolding sampled
-returns-3 c = rw (← c .before .before .before .judged .ensures, c .before .enum-told3 .given .1) (c .rests .ensures)
 
 returns-4 : tie.Need-returns-4
 unfolding sampled
@@ -53,21 +45,19 @@ returns-5 : tie.Need-returns-5
 unfolding sampled
 returns-5 c =
     let start = c .before .before .before .before .before .before in
+    let back = c .before .wrapping-sub-u32 in
     rw (
       ← c .before .before .before .before .before .judged .ensures,
       c .before .before .before .enum-told5 .given .1,
       c .keeps3 .ensures,
-      stepped-back (c .before .wrapping-sub-u32 .result) (start .args .self .position) (search needs) (c .before .wrapping-sub-u32 .ensures),
+      stepped-back (back .result) (start .args .self .position) (search needs) (back .ensures),
       toZ-ofZ {w = w16} {z = c .before .before .boundary2 .result} (search needs),
       c .before .before .boundary2 .ensures,
       toZ-ofZ {w = w16} {z = start .args .offset} (start .fits .offset),
     )
 
-returns-6 : tie.Need-returns-6
-unfolding sampled
-returns-6 c = rw (← c .before .before .before .judged .ensures, c .before .enum-told6 .given .1) (c .stray-sample .ensures)
-
 pub sampled-spec : {M : Type 1} → statement M
+unfolding sampled
 sampled-spec =
     tie.close
     (tie.spec
@@ -90,9 +80,9 @@ sampled-spec =
     (λ c κs. search needs)
     (λ c. search needs)
     (λ c κs. search needs)
-    returns
+    (λ c. rw (← c .before .before .before .judged .ensures, c .before .enum-told .given .1) (c .dead-sample .ensures))
     returns-2
-    returns-3
+    (λ c. rw (← c .before .before .before .judged .ensures, c .before .enum-told3 .given .1) (c .rests .ensures))
     returns-4
     returns-5
-    returns-6)
+    (λ c. rw (← c .before .before .before .judged .ensures, c .before .enum-told6 .given .1) (c .stray-sample .ensures)))

@@ -18,12 +18,6 @@ use Rattle.hall.proofs.angle.twelfth.Tie as tie
 abbrev right : ℕ → ℤ → Bool
 right k angle = eqb (ofZ w16 angle) (65536 * k / 12)
 
-mul-result : tie.Need-mul-result
-mul-result c = search needs
-
-array-copy-out-result : tie.Need-array-copy-out-result
-array-copy-out-result c = search needs
-
 returns : tie.Need-returns
 unfolding twelfth
 returns c =
@@ -31,4 +25,4 @@ returns c =
     ap (toZ w16) (eqb→eq (ofZ w16 (getD table k (pos 0))) (65536 * k / 12) (at right table (pos 0) tt k (omega arith)))
 
 pub twelfth-spec : {M : Type 1} → statement M
-twelfth-spec = tie.close (tie.spec mul-result array-copy-out-result returns)
+twelfth-spec = tie.close (tie.spec (λ c. search needs) (λ c. search needs) returns)

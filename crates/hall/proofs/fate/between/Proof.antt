@@ -5,21 +5,6 @@ use Rattle.hall.specs.Fate.{beside}
 use Rattle.hall.proofs.fate.between.Statement.{statement}
 use Rattle.hall.proofs.fate.between.Tie as tie
 
-enum-told : tie.Need-enum-told
-enum-told c = search needs
-
-enum-known-kept : tie.Need-enum-known-kept
-enum-known-kept c = search needs
-
-returns : tie.Need-returns
-unfolding beside
-returns c = rw (c .before .before .kept .given .1, eq-eqb _ _ (c .if1 .taken))
-
-returns-2 : tie.Need-returns-2
-unfolding beside
-returns-2 c =
-    rw (c .before .before .before .kept .given .1, ne-eqb _ _ (c .before .if1 .left), eq-eqb _ _ (c .if2 .taken))
-
 returns-3 : tie.Need-returns-3
 unfolding beside
 returns-3 c =
@@ -29,10 +14,6 @@ returns-3 c =
       ne-eqb _ _ (c .before .if2 .left),
       eq-eqb _ _ (c .if3 .taken),
     )
-
-returns-4 : tie.Need-returns-4
-unfolding beside
-returns-4 c = rw (c .enum-told .given .1)
 
 returns-5 : tie.Need-returns-5
 unfolding beside
@@ -45,5 +26,14 @@ returns-5 c =
     )
 
 pub between-spec : {M : Type 1} → statement M
+unfolding beside
 between-spec =
-    tie.close (tie.spec enum-told enum-known-kept returns returns-2 returns-3 returns-4 returns-5)
+    tie.close
+    (tie.spec
+    (λ c. search needs)
+    (λ c. search needs)
+    (λ c. rw (c .before .before .kept .given .1, eq-eqb _ _ (c .if1 .taken)))
+    (λ c. rw (c .before .before .before .kept .given .1, ne-eqb _ _ (c .before .if1 .left), eq-eqb _ _ (c .if2 .taken)))
+    returns-3
+    (λ c. rw (c .enum-told .given .1))
+    returns-5)

@@ -4,22 +4,29 @@ use Prim.Native.Nat.{ℕ, _<_}
 use native.Mathlib.Omega.{arith}
 use native.Mathlib.Nat.{le-suc}
 use lib.IntN.{pos, negℤ, natAbs, _-ℤ_, +ℤ-idl}
+use lib.Signed.{mag}
 use mir.Syntax.{w32}
 use mir.Val.{SFits, toZ}
-use mir.Facts.{toZ-ofZ, sfits-widen}
+use mir.Facts.{toZ-ofZ, toZ-pos, sfits-widen}
 use borrow.Author.Needs.{needs}
 use borrow.Author.Tests.{le-ltb, lt-ltb}
-use Rattle.numbers.proofs.Sums.{mag-opposite, natural}
+use Rattle.numbers.proofs.Sums.{mag-opposite}
 use Rattle.motor.specs.Reference.{target0}
 use Rattle.motor.proofs.reference.target_0.Statement.{statement}
 use Rattle.motor.proofs.reference.target_0.Tie as tie
 
--- the opposite of a 16-bit number fits
-opposite : (n : ℕ) → n < 65536 → pos 0 -ℤ toZ w32 n ≡ negℤ (pos n)
-opposite n small = rw (natural w32 n (omega arith), +ℤ-idl)
+module _ (n : ℕ) (small : n < 65536) where
+  natural : toZ w32 n ≡ pos n
+  natural = toZ-pos w32 (omega arith)
 
-opposite-fits : (n : ℕ) → n < 65536 → SFits w32 (negℤ (pos n))
-opposite-fits n small = record { sfits = omega (arith, mag-opposite n (le-suc n)) }
+  opposite : pos 0 -ℤ toZ w32 n ≡ negℤ (pos n)
+  opposite = rw (natural, +ℤ-idl)
+
+  opposite-small : mag (negℤ (pos n)) < 65536
+  opposite-small = omega (arith, mag-opposite n (le-suc n))
+
+  opposite-fits : SFits w32 (negℤ (pos n))
+  opposite-fits = record { sfits = omega (arith, opposite-small) }
 
 -- what was tested
 absolute-is : (c : tie.After-absolute) → c .absolute .result ≡ natAbs (c .before .args .target)
@@ -34,42 +41,25 @@ returns : tie.Need-returns
 unfolding target0
 returns c =
     let start = c .before .before .before in
-    let small = start .fits .minimum .fits in (
-      rw (
-        ← absolute-is (c .before .before),
-        lt-ltb _ _ (c .before .if1 .taken),
-        rw (toZ-ofZ (start .fits .target)) at (c .if2 .taken),
-        opposite _ small,
-        toZ-ofZ (opposite-fits _ small),
-      ),
-      rw (opposite _ small, toZ-ofZ (opposite-fits _ small)) (omega (arith, mag-opposite (start .args .minimum) (le-suc _), small)),
-    )
+    let small = start .fits .minimum .fits in
+    let below = rw (toZ-ofZ (start .fits .target)) at (c .if2 .taken) in
+    rw (opposite _ small, toZ-ofZ (opposite-fits _ small))
+    (rw (← absolute-is (c .before .before), lt-ltb _ _ (c .before .if1 .taken), below), opposite-small _ small)
 
 returns-2 : tie.Need-returns-2
 unfolding target0
 returns-2 c =
     let start = c .before .before .before in
-    let small = start .fits .minimum .fits in (
-      rw (
-        ← absolute-is (c .before .before),
-        lt-ltb _ _ (c .before .if1 .taken),
-        rw (toZ-ofZ (start .fits .target)) at (c .if2 .left),
-        natural w32 (start .args .minimum) (omega (arith, small)),
-      ),
-      rw (natural w32 (start .args .minimum) (omega (arith, small))) small,
-    )
-
-cast-result-3 : tie.Need-cast-result-3
-cast-result-3 c = let fits = c .before .before .fits .target in rw (toZ-ofZ fits) (sfits-widen tt fits)
+    let small = start .fits .minimum .fits in
+    let not-below = rw (toZ-ofZ (start .fits .target)) at (c .if2 .left) in
+    rw (natural _ small) (rw (← absolute-is (c .before .before), lt-ltb _ _ (c .before .if1 .taken), not-below), small)
 
 returns-3 : tie.Need-returns-3
 unfolding target0
 returns-3 c =
-    let fits = c .before .before .fits .target in (
-      rw
-          (← absolute-is (c .before), le-ltb _ _ (c .if1 .left), toZ-ofZ fits, toZ-ofZ (sfits-widen {w′ = w32} tt fits)),
-      rw (toZ-ofZ fits, toZ-ofZ (sfits-widen {w′ = w32} tt fits)) (omega (arith, fits .sfits)),
-    )
+    let fits = c .before .before .fits .target in
+    rw (toZ-ofZ fits, toZ-ofZ (sfits-widen {w′ = w32} tt fits))
+    (rw (← absolute-is (c .before), le-ltb _ _ (c .if1 .left)), omega (arith, fits .sfits))
 
 pub target-0-spec : {M : Type 1} → statement M
 target-0-spec =
@@ -81,5 +71,5 @@ target-0-spec =
     returns
     (λ c. search needs)
     returns-2
-    cast-result-3
+    (λ c. rw (toZ-ofZ (c .before .before .fits .target)) (sfits-widen tt (c .before .before .fits .target)))
     returns-3)
