@@ -66,7 +66,11 @@ module _ (always mask : ℕ) where
   live-bit k f = bit-and k f (always or mask)
 
   -- flags that only grow: what was live stays live
-  pub stays-live : (f g : ℕ) → ((k : ℕ) → T (bit k f) → T (bit k g)) → T (any (live always mask f)) → T (any (live always mask g))
+  pub stays-live :
+      (f g : ℕ)
+      → ((k : ℕ) → T (bit k f) → T (bit k g))
+      → T (any (live always mask f))
+      → T (any (live always mask g))
   stays-live f g grows t =
       some-bit (live always mask f) t
       (λ k at.

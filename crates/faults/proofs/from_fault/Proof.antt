@@ -3,5 +3,8 @@ use borrow.Author.Needs.{needs}
 use Rattle.faults.proofs.from_fault.Statement.{statement}
 use Rattle.faults.proofs.from_fault.Tie as tie
 
+returns : tie.Need-returns
+returns c = rw (c .pick-exit3 .ensures, c .before .pick-exit2 .ensures, c .before .before .pick-exit .ensures)
+
 pub from-fault-spec : {M : Type 1} → statement M
-from-fault-spec = tie.close (tie.spec (λ c κs. search needs) (λ c κs. search needs) (λ c κs. search needs) (λ c. cc))
+from-fault-spec = tie.close (tie.spec (λ c κs. search needs) (λ c κs. search needs) (λ c κs. search needs) returns)

@@ -20,7 +20,10 @@ use Rattle.settings.proofs.verdict.Tie as tie
 abbrev from : List ℕ → ℕ → Verdict
 from s i = verdict (map (settingRow s) (drop i indices))
 
-next : (s : List ℕ) (i : ℕ) → i < settingCount → from s i ≡ cond (not (rule s i)) (record { number = 2; place = i + 1 }) (from s (suc i))
+next :
+    (s : List ℕ) (i : ℕ)
+    → i < settingCount
+    → from s i ≡ cond (not (rule s i)) (record { number = 2; place = i + 1 }) (from s (suc i))
 next s i small =
     ap (λ (l : List ℕ). verdict (map (settingRow s) l))
     (drop-cons indices i 0 small ∙ ap (λ (x : ℕ). x ∷ drop (suc i) indices) (place-at i small))
@@ -37,18 +40,16 @@ loop-holds c = (omega arith, refl)
 
 returns : tie.Need-returns Inv-loop μ-loop
 returns c =
-    let s = c .before .before .before .before .args .settings in
-    let i = c .before .before .before .loop .i in
-    rw (c .before .before .before .loop .inv .1, next s i (c .before .before .loop-test .taken), ← c .before .rule .ensures, c .if1 .taken)
+    let loop = c .before .before .before .loop in
+    let row = next (c .before .before .before .before .args .settings) (loop .i) (c .before .before .loop-test .taken) in
+    rw (loop .inv .1, row, ← c .before .rule .ensures, c .if1 .taken)
 
 loop-again : tie.Need-loop-again Inv-loop μ-loop
 loop-again c =
     let s = c .before .before .before .before .args .settings in
-    let i = c .before .before .before .loop .i in (
-      search needs,
-      c .before .before .before .loop .inv .1
-          ∙ rw (next s i (c .before .before .loop-test .taken), ← c .before .rule .ensures, c .if1 .left) (ap (from s) (sym (add-one i))),
-    )
+    let loop = c .before .before .before .loop in
+    let row = next s (loop .i) (c .before .before .loop-test .taken) in
+    (search needs, loop .inv .1 ∙ rw (row, ← c .before .rule .ensures, c .if1 .left) (ap (from s) (sym (add-one (loop .i)))))
 
 returns-2 : tie.Need-returns-2 Inv-loop μ-loop
 returns-2 c =

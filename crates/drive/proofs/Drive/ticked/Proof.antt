@@ -9,7 +9,8 @@ use Rattle.drive.proofs.Drive.ticked.Tie as tie
 returns : tie.Need-returns
 unfolding ticked
 returns c =
-    let tick = c .before .before .before .before .before .before .before .before .before .before .before .before .before .before .args .tick in
+    let causes = c .before .before .before .before .before .before .before .before in
+    let first = causes .before .before .before .before in
     let fits = c .before .before .before .struct-told .given .1 .1 .1 .1 .1 .1 .1 .1 .1 .0 in
     rw (
       c .moved .ensures,
@@ -18,12 +19,12 @@ returns c =
       c .before .before .before .before .alive2 .ensures,
       c .before .before .before .before .before .alive .ensures,
       c .before .before .before .before .before .before .high .ensures,
-      c .before .before .before .before .before .before .before .before .causes .ensures,
-      c .before .before .before .before .before .before .before .before .before .watched .ensures,
-      c .before .before .before .before .before .before .before .before .before .before .low .ensures,
-      c .before .before .before .before .before .before .before .before .before .before .before .count-up .ensures,
-      c .before .before .before .before .before .before .before .before .before .before .before .before .number .ensures,
-      toZ-ofZ {w = w16} {z = tick .speed} (search (needs, fits)),
+      causes .causes .ensures,
+      causes .before .watched .ensures,
+      causes .before .before .low .ensures,
+      causes .before .before .before .count-up .ensures,
+      first .number .ensures,
+      toZ-ofZ {w = w16} {z = first .before .before .args .tick .speed} (search (needs, fits)),
     )
 
 pub ticked-spec : {M : Type 1} → statement M

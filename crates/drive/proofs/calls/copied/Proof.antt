@@ -13,7 +13,8 @@ use Rattle.drive.proofs.calls.copied.Tie as tie
 
 abbrev Inv-loop : tie.InvT-loop
 Inv-loop numbers settings₀ i₀ settings i =
-    (i ≤ settingCount) × (length settings ≡ settingCount) × (length numbers ≡ settingCount) × ((k : ℕ) → k < i → getD settings k 0 ≡ getD numbers k 0)
+    (i ≤ settingCount) × (length settings ≡ settingCount) × (length numbers ≡ settingCount)
+    × ((k : ℕ) → k < i → getD settings k 0 ≡ getD numbers k 0)
 
 abbrev μ-loop : tie.MeasureT-loop
 μ-loop numbers settings₀ i₀ settings i = settingCount - i

@@ -5,16 +5,18 @@ use Rattle.fields.proofs.Tick.verdict.Tie as tie
 
 returns : tie.Need-returns
 returns c =
+    let temperature = c .before .before .before .before .before .before in
+    let last = temperature .before .before .before .before .before .before in
     rw (
       c .first8 .ensures,
       c .before .before .first7 .ensures,
       c .before .before .before .before .first6 .ensures,
-      c .before .before .before .before .before .before .first5 .ensures,
-      c .before .before .before .before .before .before .before .before .first4 .ensures,
-      c .before .before .before .before .before .before .before .before .before .before .first3 .ensures,
-      c .before .before .before .before .before .before .before .before .before .before .before .before .first2 .ensures,
-      c .before .before .before .before .before .before .before .before .before .before .before .before .before .before .first .ensures,
-      c .before .before .before .before .before .before .before .before .before .before .before .before .before .before .before .signed-verdict .ensures,
+      temperature .first5 .ensures,
+      temperature .before .before .first4 .ensures,
+      temperature .before .before .before .before .first3 .ensures,
+      last .first2 .ensures,
+      last .before .before .first .ensures,
+      last .before .before .before .signed-verdict .ensures,
     )
 
 pub verdict-spec : {M : Type 1} → statement M

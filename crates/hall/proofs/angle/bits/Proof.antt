@@ -14,7 +14,13 @@ use borrow.Author.Tests.{ltb-true}
 use Rattle.hall.proofs.angle.bits.Statement.{statement}
 use Rattle.hall.proofs.angle.bits.Tie as tie
 
-below-zero : (z : ℤ) (r : ℕ) → ltZ z (pos 0) ≡ true → mag z < 32768 → r < 65536 → (r + natAbs z) % 65536 ≡ 0 → r ≡ ofZ w16 z
+below-zero :
+    (z : ℤ) (r : ℕ)
+    → ltZ z (pos 0) ≡ true
+    → mag z < 32768
+    → r < 65536
+    → (r + natAbs z) % 65536 ≡ 0
+    → r ≡ ofZ w16 z
 below-zero (pos n) r below small fits wraps = absurd (omega (arith, ltb-true n 0 below))
 below-zero (negsuc n) r below small fits wraps = omega arith
 
