@@ -9,7 +9,8 @@ use lib.ListN.{length, getD}
 use Rattle.numbers.proofs.Table as table
 use Rattle.numbers.proofs.Tests.{follows, agreed}
 use Rattle.states.specs.declared.State.{State}
-use Rattle.states.specs.declared.State.the-variants.{Idle, Stop, OffsetCal, BtsCharge, MotorRun, Fault, CatchSpin, Parking, OpenLoop}
+use Rattle.states.specs.declared.State.the-variants.{Idle, Stop, OffsetCal, BtsCharge, MotorRun, Fault, CatchSpin, Parking}
+use Rattle.states.specs.declared.State.the-variants.{OpenLoop}
 use Rattle.states.specs.declared.State.the-variants.{AngleSensing}
 
 -- by their numbers, from 0

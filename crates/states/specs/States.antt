@@ -3,7 +3,8 @@ use Prim.Native.Nat.{ℕ}
 use mathlib.Core.Bool.{Bool, _||_}
 use lib.Dec.{eqb}
 use Rattle.states.specs.declared.State.{State}
-use Rattle.states.specs.declared.State.the-variants.{Idle, Stop, OffsetCal, BtsCharge, MotorRun, Fault, CatchSpin, Parking, OpenLoop, AngleSensing}
+use Rattle.states.specs.declared.State.the-variants.{Idle, Stop, OffsetCal, BtsCharge, MotorRun, Fault, CatchSpin, Parking}
+use Rattle.states.specs.declared.State.the-variants.{OpenLoop, AngleSensing}
 
 abbrev pub numberOf : State → ℕ
 numberOf Idle = 0

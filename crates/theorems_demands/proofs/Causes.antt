@@ -56,7 +56,9 @@ module _ (d : Drive) (t : Tick) where
       or-cases (kill || critical || over && on 2) (under && on 3) b
       (λ c.
       or-cases (kill || critical) (over && on 2) c
-      (λ e. or-cases kill critical e (λ u. lives 0 (or-left kill false u) (always 0 tt)) (λ u. lives 1 (or-left critical false u) (always 1 tt)))
+      (λ e.
+      or-cases kill critical e (λ u. lives 0 (or-left kill false u) (always 0 tt))
+      (λ u. lives 1 (or-left critical false u) (always 1 tt)))
       (masked 2 over (or-left over false)))
       (masked 3 under (or-left under false)))
       (masked 6 hot (or-left hot false)))

@@ -7,7 +7,8 @@ use mir.Facts.{and-yes}
 use Rattle.numbers.proofs.Tests.{follows, all-three}
 use Rattle.theorems_history.specs.Log.{stateAfter, entry, log}
 use Rattle.theorems_history.specs.Onlooker.{memoryOf, note, notes}
-use Rattle.theorems_history.specs.History.{Seen, since, holds, gatesRule, exitRule, retryRule, faultStanding, startTaken, permitted, beforeStart}
+use Rattle.theorems_history.specs.History.{Seen, since, holds, gatesRule, exitRule, retryRule, faultStanding, startTaken, permitted}
+use Rattle.theorems_history.specs.History.{beforeStart}
 use Rattle.theorems_history.specs.History.{lowSince, retrySince, everLoaded, retries}
 use Rattle.theorems_history.proofs.Since.{quiet, no-fault-since}
 use Rattle.drive.specs.AnyCall.{Call}

@@ -164,7 +164,9 @@ module _ (d : Drive) (r : Reached d) (memory : Memory) (knows : Remembers d memo
       record {
         remembers = now;
         obeys =
-            stands _ _ _ _ 0 0 _ r-now (old-stays alwaysLive (FaultEnable (d .settings)) (d .flags) (flag 15 (sample d c .flagged))) now refl;
+            stands _ _ _ _ 0 0 _ r-now
+            (old-stays alwaysLive (FaultEnable (d .settings)) (d .flags) (flag 15 (sample d c .flagged)))
+            now refl;
       }
 
   module _ (t : Tick) (outside : T (not (is 0 (d .state)))) where

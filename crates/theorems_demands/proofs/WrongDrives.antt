@@ -23,7 +23,8 @@ use Rattle.drive.specs.declared.answer.Reply.{Reply}
 use Rattle.theorems_history.proofs.Judges.{judges}
 use Rattle.theorems_reached.specs.Machine.{machineOf}
 use Rattle.theorems_demands.proofs.Computes.{computes}
-use Rattle.theorems_demands.specs.NamedCalls.{settingsWith, loaded, loadedInMode1, shows, tickWith, low, high, over, clear, ready, started}
+use Rattle.theorems_demands.specs.NamedCalls.{settingsWith, loaded, loadedInMode1, shows, tickWith, low, high, over, clear}
+use Rattle.theorems_demands.specs.NamedCalls.{ready, started}
 use Rattle.theorems_demands.specs.Supervised.{words}
 
 -- a drive is what it replies in each state

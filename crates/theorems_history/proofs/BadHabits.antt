@@ -8,9 +8,11 @@ use Rattle.theorems_history.specs.Onlooker.{notes}
 use Rattle.theorems_history.specs.History.{Seen, holds}
 use Rattle.theorems_history.proofs.Judges.{judges}
 use Rattle.theorems_history.proofs.Toy.{down, middle, up, fields, Press, loads, ticks, glitch, halt, words, Habit, machine, sound}
-use Rattle.theorems_history.proofs.Toy.{startsUnarmed, startsInTheMiddle, startsDry, loadKeepsArmed, startKeepsArmed, tripKeepsArmed}
+use Rattle.theorems_history.proofs.Toy.{startsUnarmed, startsInTheMiddle, startsDry, loadKeepsArmed, startKeepsArmed}
+use Rattle.theorems_history.proofs.Toy.{tripKeepsArmed}
 use Rattle.theorems_history.proofs.Toy.{armsInFault, wakesInStop, tripsForNothing, leavesAlight, leavesWithCause, leavesInASample}
-use Rattle.theorems_history.proofs.Toy.{leavesByALoad, waitsOverALoad, retriesAtOnce, retriesUntimed, retriesForEver, raisesItsLimit}
+use Rattle.theorems_history.proofs.Toy.{leavesByALoad, waitsOverALoad, retriesAtOnce, retriesUntimed, retriesForEver}
+use Rattle.theorems_history.proofs.Toy.{raisesItsLimit}
 use Rattle.theorems_history.proofs.Toy.{storesMore, rests, stopsAtATrip, ignoresLow, ignoresCause, ignoresSamples, drivesWithFault}
 use Rattle.theorems_history.proofs.Toy.{forgetsFault, drivesInStop, loadsInRun, saysStop, tripsInSilence, nods}
 

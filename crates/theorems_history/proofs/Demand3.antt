@@ -7,7 +7,8 @@ use lib.Dec.{T, le→leb}
 use mir.Facts.{and-yes}
 use Rattle.theorems_history.specs.Log.{Machine, stateAfter, entry, log}
 use Rattle.theorems_history.specs.Onlooker.{Words, Memory, memoryOf, note, notes}
-use Rattle.theorems_history.specs.History.{Seen, retried, noLoadNorStart, noneOfThese, lowSince, retrySince, everLoaded, permitted, faulted}
+use Rattle.theorems_history.specs.History.{Seen, retried, noLoadNorStart, noneOfThese, lowSince, retrySince, everLoaded}
+use Rattle.theorems_history.specs.History.{permitted, faulted}
 use Rattle.theorems_history.specs.History.{faultStanding, endsStart, startTaken, beforeStart, gatesRule, exitRule, counted, retries}
 use Rattle.theorems_history.specs.History.{retryRule, holds, Demand3}
 use Rattle.theorems_history.specs.Laws.{Inside, asleep, Step, Lawful}

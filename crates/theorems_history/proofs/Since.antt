@@ -4,7 +4,8 @@ use mathlib.Core.Bool.{Bool, not, _&&_, _||_}
 use mathlib.Core.List.{List, [], _∷_}
 use lib.Dec.{T, T-not}
 use mir.Facts.{and-yes, yes-and, or-no}
-use Rattle.theorems_history.specs.History.{Seen, since, faultStanding, endsStart, startTaken, permitted, beforeStart, gatesRule, exitRule}
+use Rattle.theorems_history.specs.History.{Seen, since, faultStanding, endsStart, startTaken, permitted, beforeStart, gatesRule}
+use Rattle.theorems_history.specs.History.{exitRule}
 use Rattle.theorems_history.specs.History.{retryRule, holds}
 use Rattle.numbers.proofs.Tests.{or-cases, fails-right, decide, joins}
 

@@ -13,7 +13,9 @@ use Rattle.theorems_reached.specs.Reached.{butHall}
 
 -- where no flag is live, none is but for flag 15
 pub calm-but-hall : (word : ℕ) → T (not (any word)) → T (not (any (butHall word)))
-calm-but-hall word calm = subst (λ (w : ℕ). T (not (any (butHall w)))) (sym (eqb-yes {a = word} {b = 0} (T-not-not (eqb word 0) calm))) (tt {0})
+calm-but-hall word calm =
+    let none : word ≡ 0 = eqb-yes (T-not-not (eqb word 0) calm) in
+    subst (λ (w : ℕ). T (not (any (butHall w)))) (sym none) (tt {0})
 
 -- flag 15 adds nothing below it
 below : (flags : ℕ) (set : Bool) → (flags or flag 15 set) % 2 ^ 15 ≡ flags % 2 ^ 15

@@ -153,7 +153,9 @@ module _ (hall : Hall) (p : ℕ) (offset : ℤ) where
   abbrev dead-with : Fate → ℕ
   dead-with f = after hall p offset f .hall .«dead_streak»
 
-  pub dead-by-pattern : p ≤ 7 → sampled hall p offset .hall .«dead_streak» ≡ cond (eqb p 0 || eqb p 7) (up 2 (hall .«dead_streak»)) 0
+  pub dead-by-pattern :
+      p ≤ 7
+      → sampled hall p offset .hall .«dead_streak» ≡ cond (eqb p 0 || eqb p 7) (up 2 (hall .«dead_streak»)) 0
   unfolding sampled fate beside deadSample straySample
   dead-by-pattern small = go (eqb p 0 || eqb p 7) (outside-the-order p small) (hall .kept)
     where

@@ -13,7 +13,8 @@ use Rattle.theorems_history.specs.History.{Demand3}
 use Rattle.theorems_history.specs.Laws.{Inside, Step, Lawful}
 use Rattle.numbers.proofs.Tests.{joins}
 use Rattle.theorems_history.proofs.Demand3.{demand3}
-use Rattle.theorems_history.proofs.Toy.{Spot, idle, stop, run, fault, Toy, toy, Lever, down, middle, up, fields, Press, loads, ticks, glitch, halt}
+use Rattle.theorems_history.proofs.Toy.{Spot, idle, stop, run, fault, Toy, toy, Lever, down, middle, up, fields, Press, loads, ticks}
+use Rattle.theorems_history.proofs.Toy.{glitch, halt}
 use Rattle.theorems_history.proofs.Toy.{numbers, words, sound, machine, next, turns}
 
 abbrev wasLoaded : Spot → Bool
