@@ -84,12 +84,17 @@ fn replied(drive: Drive, number: u8, place: u8) -> Reply
     Reply { drive, answer }
 }
 
+fn pick_drive(test: bool, yes: Drive, no: Drive) -> Drive
+    ensures { λ r. ⌜ r ≡ cond test yes no ⌝ }
+{
+    if test { yes } else { no }
+}
+
 // What a call comes to: the next state where nothing refuses it, and else the state that the refusal leaves.
 pub(crate) fn settle(verdict: Verdict, next: Drive, left: Drive) -> Reply
     ensures { λ r. ⌜ r ≡ settle verdict next left ⌝ }
 {
-    if verdict.number == 0 {
-        return replied(next, 0, 0);
-    }
-    replied(left, verdict.number, verdict.place)
+    let accepted = verdict.number == 0;
+    let place = pick_u8(accepted, 0, verdict.place);
+    replied(pick_drive(accepted, next, left), verdict.number, place)
 }
