@@ -7,51 +7,38 @@ use Prim.Native.Nat.{ℕ, _≤_}
 use native.Mathlib.Omega.{arith}
 use lib.Dec.{T, eqb, leb, leb→le}
 use mir.Facts.{and-yes}
-use Rattle.states.specs.States.{numberOf, is, turning}
+use Rattle.faults.specs.Word.{bit, any}
+use Rattle.numbers.proofs.Tests.{by-test}
+use Rattle.states.proofs.Every.{every}
+use Rattle.states.specs.States.{numberOf}
 use Rattle.drive.specs.AnyCall.{Call as Record, loads as aLoad, cycles as aCycle, ticks as aTick, reply as replyTo}
-use Rattle.drive.specs.Flags.{any}
-use Rattle.drive.specs.Answer.{gate, alive, answer, reply}
+use Rattle.drive.specs.Answer.{gateOf, gate, liveWord, answer, reply}
 use Rattle.verdicts.specs.Table.{Row, told, verdict}
 use Rattle.settings.specs.Rules.{settingRows}
 use Rattle.drive.specs.Refusals.{loadRows, cycleRows, tickRows}
-use Rattle.drive.specs.Calls.{settle, load, cycle, cycled, tick, ticked}
+use Rattle.drive.specs.Calls.{settle, load, cycle, cycled}
+use Rattle.drive.specs.Ticks.{tick, ticked}
 use Rattle.drive.specs.declared.Drive.{Drive}
 use Rattle.states.specs.declared.State.{State}
-use Rattle.states.specs.declared.State.the-variants.{Idle, Stop, OffsetCal, BtsCharge, MotorRun, Fault, CatchSpin, Parking, OpenLoop}
-use Rattle.states.specs.declared.State.the-variants.{AngleSensing}
-use Rattle.drive.specs.declared.flags.Flags.{Flags}
 use Rattle.verdicts.specs.declared.Verdict.{Verdict}
 use Rattle.report.specs.Refusals.{lineLength, accepts}
 use Rattle.report.proofs.Accepted.{accepted}
 
 state-small : (s : State) → numberOf s ≤ 9
-state-small Idle = omega arith
-state-small Stop = omega arith
-state-small OffsetCal = omega arith
-state-small BtsCharge = omega arith
-state-small MotorRun = omega arith
-state-small Fault = omega arith
-state-small CatchSpin = omega arith
-state-small Parking = omega arith
-state-small OpenLoop = omega arith
-state-small AngleSensing = omega arith
+state-small s = leb→le (numberOf s) 9 (every (λ s. leb (numberOf s) 9) tt s)
 
-pick-small : (b : Bool) (x y n : ℕ) → x ≤ n → y ≤ n → cond b x y ≤ n
-pick-small true x y n hx hy = hx
-pick-small false x y n hx hy = hy
-
-gate-small : (s : State) (f : Flags) → gate s f ≤ 3
-gate-small s f =
-    pick-small (f .kill) 0 _ 3 (omega arith)
-    (pick-small (f .critical) 3 _ 3 (omega arith)
-    (pick-small (any f) 0 _ 3 (omega arith)
-    (pick-small (is 3 s) 1 _ 3 (omega arith) (pick-small (turning s) 2 0 3 (omega arith) (omega arith)))))
+gate-small : (s : State) (live : ℕ) → gate s live ≤ 3
+gate-small s live =
+    by-test (λ n. n ≤ 3) (bit 0 live) (λ _. omega arith)
+    (λ _. by-test (λ n. n ≤ 3) (bit 1 live) (λ _. omega arith)
+    (λ _. by-test (λ n. n ≤ 3) (any live) (λ _. omega arith)
+    (λ _. leb→le (gateOf s) 3 (every (λ s. leb (gateOf s) 3) tt s))))
 
 pub answer-printed : (number place : ℕ) (d : Drive) (lent : ℕ) → number ≤ 15 → lineLength ≤ lent
     → accepts (answer number place d) lent ≡ true
 unfolding answer
 answer-printed number place d lent small room =
-    accepted (answer number place d) lent room small (state-small (d .state)) (gate-small (d .state) (alive d))
+    accepted (answer number place d) lent room small (state-small (d .state)) (gate-small (d .state) (liveWord d))
 
 -- each row's number is small
 small : List Row → Bool

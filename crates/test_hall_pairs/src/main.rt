@@ -54,9 +54,9 @@ fn print_pair(pattern: u8, number: u8) {
         kept,
         position: 0,
         angle: 1,
-        dead: 0,
-        stray: 0,
-        still: 0,
+        dead_streak: 0,
+        stray_streak: 0,
+        still_count: 0,
     };
     let sampled = hall.sampled(pattern, 0);
     print_pattern(pattern);
