@@ -3,6 +3,7 @@ pub mod Table
 pub mod Sums
 pub mod Order
 pub mod Tests
+pub mod Fill
 pub mod Reply
 -- Of the promises themselves.
 pub mod OneReply

@@ -1,0 +1,26 @@
+-- A loop that fills a list from its front: what is stored so far stands before the list as it was, and a turn stores one more.
+use Prim.Native.Nat.{ℕ, suc, _+_, _≤_, _<_}
+use native.Mathlib.Nat.{zero-add}
+use native.Mathlib.Numerals.{add-one}
+use native.Mathlib.Omega.{arith}
+use mathlib.Core.Path.{_≡_}
+use mathlib.Core.List.{List, _++_, append-nil}
+use lib.ListN.{length, getD, take, drop, set, drop-of-length-le}
+use lib.Seq.{paste-suc, take-all}
+
+-- the first i elements are those of the new list
+abbrev pub filled : List ℕ → List ℕ → ℕ → List ℕ
+filled old new i = take i new ++ drop i old
+
+pub filled-more :
+    (old new : List ℕ) (i : ℕ) {v : ℕ}
+    → i < length old
+    → i < length new
+    → v ≡ getD new i 0
+    → set (filled old new i) i v ≡ filled old new (i + 1)
+filled-more old new i room some is =
+    let inside : 0 + i < length old = omega arith in
+    rw (is, add-one) (simp zero-add at (paste-suc old 0 new i 0 inside some))
+
+pub filled-all : (old new : List ℕ) (i : ℕ) → length old ≤ i → length new ≤ i → filled old new i ≡ new
+filled-all old new i whole all = rw (take-all i new all, drop-of-length-le old whole, append-nil)
