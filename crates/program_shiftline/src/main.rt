@@ -3,27 +3,30 @@
 use drive::Drive;
 use libc::STDIN_FILENO;
 use libc::STDOUT_FILENO;
+use records::INPUT_SIZE;
+use records::OUTPUT_SIZE;
 use records::run;
 ghost use mathlib.Core.Bool.{true};
 ghost use mathlib.Core.Path.{_≡_};
 ghost use mathlib.Core.List.{_++_};
 ghost use Prim.Native.Nat.{_-_, _≤_};
 ghost use lib.ListN.{length, take, drop};
-ghost use Rattle.program_shiftline.specs.Rest.{Rest, Turned};
+ghost use Rattle.records.specs.Stream.{inputSize, outputSize};
+ghost use Rattle.program_shiftline.specs.Rest.{Rest, ReadOn};
 
-// What is kept from one read to the next: the drive, how many bytes at the front of the buffer are not answered yet, and whether
-// there is to be a next read.
-struct Kept {
+// What the program holds from one read to the next: the drive, how many bytes at the front of the buffer are not answered yet, and
+// whether there is to be a next read.
+struct Held {
     drive: Drive,
-    held: usize,
+    count: usize,
     going: bool,
 }
 
 // Moves the bytes from `from` to `to` to the front, and tells how many they are.
-fn moved(input: &mut [u8], from: usize, to: usize) -> usize
+fn move_to_front(input: &mut [u8], from: usize, to: usize) -> usize
     requires { ⌜ (from ≤ to) × (to ≤ length (now input)) ⌝ }
-    ensures { λ r. ⌜ r ≡ to - from ⌝ }
-    ensures { λ r. ⌜ now (input .exit) ≡ take (to - from) (drop from (now (input .entry))) ++ drop (to - from) (now (input .entry)) ⌝ }
+    ensures result { λ r. ⌜ r ≡ to - from ⌝ }
+    ensures lent { λ r. ⌜ now (input .exit) ≡ take (to - from) (drop from (now (input .entry))) ++ drop (to - from) (now (input .entry)) ⌝ }
 {
     let count = to - from;
     let mut i: usize = 0;
@@ -35,10 +38,10 @@ fn moved(input: &mut [u8], from: usize, to: usize) -> usize
 }
 
 // Answers the first `filled` bytes of the buffer, writes the lines, and moves what is left to the front.
-fn answer(drive: Drive, input: &mut [u8], filled: usize, closed: bool, output: &mut [u8]) -> Kept
+fn answer(drive: Drive, input: &mut [u8], filled: usize, closed: bool, output: &mut [u8]) -> Held
     requires { ⌜ filled ≤ length (now input) ⌝ }
-    ensures { λ r. ⌜ r .held ≤ length (now (input .entry)) ⌝ }
-    ensures { λ r. ⌜ Rest closed (length (now (output .entry))) filled (now (input .entry)) (now (input .exit)) drive r ⌝ }
+    ensures within { λ r. ⌜ r .count ≤ length (now (input .entry)) ⌝ }
+    ensures rest { λ r. ⌜ Rest closed (length (now (output .entry))) filled (now (input .entry)) (now (input .exit)) drive r ⌝ }
 {
     let ran = run(drive, &input[..filled], closed, output);
     let taken = ran.taken;
@@ -46,52 +49,52 @@ fn answer(drive: Drive, input: &mut [u8], filled: usize, closed: bool, output: &
     let ended = ran.ended;
     let drive = ran.drive;
     let is_written = io::write_all(STDOUT_FILENO, &output[..written]);
-    Kept {
+    Held {
         drive,
-        held: moved(input, taken, filled),
+        count: move_to_front(input, taken, filled),
         going: is_written & !ended & !closed,
     }
 }
 
 // Reads once behind the bytes that are held. A read that fails ends the program; one of no bytes is the end of the input.
 // It may be called only where there is to be a next read, so no loop around it goes on after a line with number 6.
-fn turn(kept: Kept, input: &mut [u8], output: &mut [u8]) -> Kept
-    requires { ⌜ (kept .going ≡ true) × (kept .held ≤ length (now input)) ⌝ }
-    ensures { λ r. ⌜ r .held ≤ length (now (input .entry)) ⌝ }
-    ensures { λ r. ⌜ Turned (length (now (output .entry))) (now (input .entry)) (now (input .exit)) kept r ⌝ }
+fn read_on(held: Held, input: &mut [u8], output: &mut [u8]) -> Held
+    requires { ⌜ (held .going ≡ true) × (held .count ≤ length (now input)) ⌝ }
+    ensures within { λ r. ⌜ r .count ≤ length (now (input .entry)) ⌝ }
+    ensures rest { λ r. ⌜ ReadOn (length (now (output .entry))) (now (input .entry)) (now (input .exit)) held r ⌝ }
 {
-    let drive = kept.drive;
-    let held = kept.held;
-    let got = libc::read(STDIN_FILENO, &mut input[held..]);
+    let drive = held.drive;
+    let count = held.count;
+    let got = libc::read(STDIN_FILENO, &mut input[count..]);
     if got < 0 {
-        return Kept {
+        return Held {
             drive,
-            held,
+            count,
             going: false,
         };
     }
-    let count = io::count(got, &input[held..]);
-    answer(drive, input, held + count, count == 0, output)
+    let brought = io::count(got, &input[count..]);
+    answer(drive, input, count + brought, brought == 0, output)
 }
 
-// A proved loop has to end, and nothing says that the input does: the turns are counted down from a number that no run uses up.
-fn serve(input: &mut [u8], output: &mut [u8]) {
-    let mut turns = u64::MAX;
-    let mut kept = Kept {
+// A proved loop has to end, and nothing says that the input does: the reads are counted down from a number that no run uses up.
+fn serve(input: &mut [u8], output: &mut [u8])
+    requires { ⌜ (length (now input) ≡ inputSize) × (length (now output) ≡ outputSize) ⌝ }
+{
+    let mut reads = u64::MAX;
+    let mut held = Held {
         drive: Drive::power_up(),
-        held: 0,
+        count: 0,
         going: true,
     };
-    while turns > 0 && kept.going {
-        kept = turn(kept, input, output);
-        turns -= 1;
+    while reads > 0 && held.going {
+        held = read_on(held, input, output);
+        reads -= 1;
     }
 }
 
-// The shortest record has 6 bytes and a line 45, so 65,536 bytes hold the lines of everything that 8,192 bytes can ask for, and
-// after a run at most the 48 bytes of a short record are held: `one-stream` and `left-few` of crates/theorems_demands/proofs/Stream.antt.
 fn main() {
-    let mut input = [0u8; 8192];
-    let mut output = [0u8; 65536];
+    let mut input = [0u8; INPUT_SIZE];
+    let mut output = [0u8; OUTPUT_SIZE];
     serve(&mut input, &mut output);
 }

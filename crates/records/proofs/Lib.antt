@@ -1,9 +1,12 @@
 pub mod Parts
+pub mod Sizes
 pub mod Printed
-pub mod Meaning
-pub mod One
-pub mod Turn
-pub mod Going
-pub mod Fuel
+pub mod MoreBytes
+pub mod WhatIsFound
+pub mod ByFront
+pub mod AnyFuel
+pub mod FirstRecord
+pub mod LoopOfRun
+pub mod Stream
 -- Of the promises themselves.
 pub mod OneReply

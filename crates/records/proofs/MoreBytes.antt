@@ -1,116 +1,105 @@
--- Bytes behind a whole record, or behind one that no letter begins, change nothing of what stands at the front.
-use mathlib.Core.Path.{_≡_, refl}
+-- What stands at the front of bytes stands there, too, when more have come behind them, unless it was no byte or a part of a record:
+-- the tests ask the letter and the length alone, and a record is read off its own bytes.
+use mathlib.Core.Path.{_≡_, refl, ap}
 use mathlib.Core.Bool.{Bool, true, false, cond}
-use mathlib.Core.List.{List, _++_}
+use mathlib.Core.List.{List, [], _++_}
 use Prim.Native.Nat.{ℕ, zero, suc, _+_, _*_, _≤_, _<_}
 use Prim.Native.Char.{code}
 use native.Mathlib.Omega.{arith}
-use lib.Dec.{eqb, ltb}
+use lib.Dec.{T, eqb, ltb, ltb→lt}
 use lib.ListN.{length, length-append, List·getD-append}
 use borrow.Author.Tests.{ltb-true, ltb-false, le-ltb, ne-eqb, eqb-true, eqb-false}
+use Rattle.settings.specs.Settings.{settingCount}
 use Rattle.drive.specs.AnyCall.{Call, loads, cycles, ticks}
-use Rattle.records.specs.Decoded.{byte, number, numbers, settingsOf, cycleOf, tickOf}
-use Rattle.records.specs.Front.{sizeOf, Front, end, unknown, short, whole, held, front}
+use Rattle.records.specs.Decoded.{byte, number, numbers, loadSize, settingsOf, cycleSize, cycleOf, tickSize, tickOf}
+use Rattle.records.specs.Front.{sizeOf, mostHeld, Front, end, unknown, short, whole, held, begun, front}
+use Rattle.records.proofs.Sizes.{long-most}
 
-positive : (n : ℕ) → eqb n 0 ≡ false → 0 < n
-positive zero e = absurd (eqb-false 0 0 e refl)
-positive (suc n) e = omega arith
+-- the record is read off the bytes
+abbrev pub ReadOff : List ℕ → Call → Type 0
+ReadOff bytes (loads numbers) = numbers ≡ settingsOf bytes
+ReadOff bytes (cycles fields) = fields ≡ cycleOf bytes
+ReadOff bytes (ticks fields) = fields ≡ tickOf bytes
+
+-- what stands at the front of the bytes `a`, and what stands there when more have come
+pub data Grown (a : List ℕ) : Front → Front → Type 0 where
+  no-byte : {g : Front} → length a ≡ 0 → Grown a end g
+  no-record : Grown a unknown unknown
+  a-part : {g : Front} → length a ≤ mostHeld → Grown a short g
+  a-record : (r : Call) → ReadOff a r → sizeOf r ≤ length a → Grown a (whole r) (whole r)
+
+both : {a : List ℕ} (test : Bool) {f g f′ g′ : Front} → Grown a f f′ → Grown a g g′ → Grown a (cond test f g) (cond test f′ g′)
+both true p q = p
+both false p q = q
 
 module _ (a b : List ℕ) where
   byte-kept : (i : ℕ) → i < length a → byte i (a ++ b) ≡ byte i a
   byte-kept i inside = List·getD-append a b 0 i inside
 
   number-kept : (at : ℕ) → at + 1 < length a → number at (a ++ b) ≡ number at a
-  number-kept at inside = rw (byte-kept at (omega (arith, inside)), byte-kept (at + 1) inside)
+  number-kept at inside = rw (byte-kept at (omega arith), byte-kept (at + 1) inside)
 
   numbers-kept : (count at : ℕ) → at + 2 * count ≤ length a → numbers count at (a ++ b) ≡ numbers count at a
   unfolding numbers
   numbers-kept zero at inside = refl
-  numbers-kept (suc count) at inside =
-      rw (number-kept at (omega (arith, inside)), numbers-kept count (at + 2) (omega (arith, inside)))
+  numbers-kept (suc count) at inside = rw (number-kept at (omega arith), numbers-kept count (at + 2) (omega arith))
 
-  settings-kept : 49 ≤ length a → settingsOf (a ++ b) ≡ settingsOf a
+  settings-kept : loadSize ≤ length a → settingsOf (a ++ b) ≡ settingsOf a
   unfolding settingsOf
-  settings-kept all = numbers-kept 24 1 (omega (arith, all))
+  settings-kept all = numbers-kept settingCount 1 (omega arith)
 
-  cycle-kept : 6 ≤ length a → cycleOf (a ++ b) ≡ cycleOf a
+  -- within the first bytes of a record
+  module _ (size : ℕ) (all : size ≤ length a) where
+    byte-in : (i : ℕ) → T (ltb i size) → byte i (a ++ b) ≡ byte i a
+    byte-in i inside = byte-kept i (omega (arith, ltb→lt i size inside))
+
+    number-in : (at : ℕ) → T (ltb (at + 1) size) → number at (a ++ b) ≡ number at a
+    number-in at inside = number-kept at (omega (arith, ltb→lt (at + 1) size inside))
+
+  cycle-kept : cycleSize ≤ length a → cycleOf (a ++ b) ≡ cycleOf a
   unfolding cycleOf
-  cycle-kept all = rw (byte-kept 1 (omega (arith, all)), number-kept 2 (omega (arith, all)), number-kept 4 (omega (arith, all)))
+  cycle-kept all =
+      let n = number-in cycleSize all in
+      rw (byte-in cycleSize all 1 tt, n 2 tt, n 4 tt)
 
-  tick-kept : 20 ≤ length a → tickOf (a ++ b) ≡ tickOf a
+  tick-kept : tickSize ≤ length a → tickOf (a ++ b) ≡ tickOf a
   unfolding tickOf
   tick-kept all =
-      rw (
-        byte-kept 1 (omega (arith, all)),
-        byte-kept 2 (omega (arith, all)),
-        byte-kept 3 (omega (arith, all)),
-        number-kept 4 (omega (arith, all)),
-        number-kept 6 (omega (arith, all)),
-        number-kept 8 (omega (arith, all)),
-        number-kept 10 (omega (arith, all)),
-        number-kept 12 (omega (arith, all)),
-        number-kept 14 (omega (arith, all)),
-        number-kept 16 (omega (arith, all)),
-        number-kept 18 (omega (arith, all)),
-      )
+      let b = byte-in tickSize all in
+      let n = number-in tickSize all in
+      rw (b 1 tt, b 2 tt, b 3 tt, n 4 tt, n 6 tt, n 8 tt, n 10 tt, n 12 tt, n 14 tt, n 16 tt, n 18 tt)
 
-  -- what stands at the front of the bytes, and what of it stands there when more have come
-  pub data Grown : Front → Type 0 where
-    no-byte : length a ≡ 0 → Grown end
-    no-record : front (a ++ b) ≡ unknown → Grown unknown
-    a-part : length a ≤ 48 → Grown short
-    a-record : (r : Call) → front (a ++ b) ≡ whole r → 6 ≤ sizeOf r → sizeOf r ≤ length a → Grown (whole r)
+  held-grown : (r s : Call) → ReadOff a r → (sizeOf r ≤ length a → s ≡ r) → Grown a (held (length a) r) (held (length (a ++ b)) s)
+  held-grown r s off same = go (ltb (length a) (sizeOf r)) refl
+    where
+      go : (few : Bool) → ltb (length a) (sizeOf r) ≡ few → Grown a (cond few short (whole r)) (held (length (a ++ b)) s)
+      go true e = a-part (omega (arith, long-most r, ltb-true (length a) (sizeOf r) e))
+      go false e =
+          let all : sizeOf r ≤ length a = ltb-false (length a) (sizeOf r) e in
+          rw (same all, le-ltb (length (a ++ b)) (sizeOf r) (omega (arith, all, length-append a b))) (a-record r off all)
 
-  either : (test : Bool) (f g : Front) → (test ≡ true → Grown f) → (test ≡ false → Grown g) → Grown (cond test f g)
-  either true f g holds fails = holds refl
-  either false f g holds fails = fails refl
+  letters : Grown a (begun (byte 0 a) (length a) a) (begun (byte 0 a) (length (a ++ b)) (a ++ b))
+  letters =
+      both (eqb (byte 0 a) (code "L")) (held-grown (loads (settingsOf a)) _ refl (λ all. ap loads (settings-kept all)))
+      (both (eqb (byte 0 a) (code "C")) (held-grown (cycles (cycleOf a)) _ refl (λ all. ap cycles (cycle-kept all)))
+      (both (eqb (byte 0 a) (code "T")) (held-grown (ticks (tickOf a)) _ refl (λ all. ap ticks (tick-kept all))) no-record))
 
-  held-grown : (r : Call) → sizeOf r ≤ 49 → (sizeOf r ≤ length a → Grown (whole r)) → Grown (held (length a) r)
-  held-grown r most grown =
-      either (ltb (length a) (sizeOf r)) short (whole r)
-      (λ few. a-part (omega (arith, most, ltb-true (length a) (sizeOf r) few)))
-      (λ many. grown (ltb-false (length a) (sizeOf r) many))
-
-  module _ (some : eqb (length a) 0 ≡ false) where
-    one-byte : 0 < length a
-    one-byte = positive (length a) some
-
-    letter : byte 0 (a ++ b) ≡ byte 0 a
-    letter = byte-kept 0 one-byte
-
-    bytes-too : eqb (length (a ++ b)) 0 ≡ false
-    bytes-too = ne-eqb (length (a ++ b)) 0 (λ none. omega (arith, none, length-append a b, one-byte))
-
-    long-too : (size : ℕ) → size ≤ length a → ltb (length (a ++ b)) size ≡ false
-    long-too size all = le-ltb (length (a ++ b)) size (omega (arith, all, length-append a b))
-
-    grown-load : eqb (byte 0 a) (code "L") ≡ true → 49 ≤ length a → Grown (whole (loads (settingsOf a)))
-    unfolding front
-    grown-load is all = a-record (loads (settingsOf a)) (rw (bytes-too, letter, is, long-too 49 all, settings-kept all)) (omega arith) all
-
-    module _ (no-load : eqb (byte 0 a) (code "L") ≡ false) where
-      grown-cycle : eqb (byte 0 a) (code "C") ≡ true → 6 ≤ length a → Grown (whole (cycles (cycleOf a)))
-      unfolding front
-      grown-cycle is all =
-          a-record (cycles (cycleOf a)) (rw (bytes-too, letter, no-load, is, long-too 6 all, cycle-kept all)) (omega arith) all
-
-      module _ (no-cycle : eqb (byte 0 a) (code "C") ≡ false) where
-        grown-tick : eqb (byte 0 a) (code "T") ≡ true → 20 ≤ length a → Grown (whole (ticks (tickOf a)))
-        unfolding front
-        grown-tick is all =
-            a-record (ticks (tickOf a)) (rw (bytes-too, letter, no-load, no-cycle, is, long-too 20 all, tick-kept all)) (omega arith) all
-
-        grown-unknown : eqb (byte 0 a) (code "T") ≡ false → Grown unknown
-        unfolding front
-        grown-unknown no-tick = no-record (rw (bytes-too, letter, no-load, no-cycle, no-tick))
-
-  pub grown : Grown (front a)
+  begun-grown : (none : Bool) → eqb (length a) 0 ≡ none → Grown a (front a) (front (a ++ b))
   unfolding front
-  grown =
-      either (eqb (length a) 0) end _ (λ none. no-byte (eqb-true (length a) 0 none))
-      (λ some. either (eqb (byte 0 a) (code "L")) _ _ (λ is. held-grown (loads (settingsOf a)) (omega arith) (grown-load some is))
-      (λ no-load. either (eqb (byte 0 a) (code "C")) _ _
-      (λ is. held-grown (cycles (cycleOf a)) (omega arith) (grown-cycle some no-load is))
-      (λ no-cycle. either (eqb (byte 0 a) (code "T")) _ _
-      (λ is. held-grown (ticks (tickOf a)) (omega arith) (grown-tick some no-load no-cycle is))
-      (λ no-tick. grown-unknown some no-load no-cycle no-tick))))
+  begun-grown true e = rw e (no-byte (eqb-true (length a) 0 e))
+  begun-grown false e =
+      let some : 0 < length a = omega (arith, eqb-false (length a) 0 e) in
+      rw (e, ne-eqb (length (a ++ b)) 0 (λ none. omega (arith, none, length-append a b)), byte-kept 0 some) letters
+
+  pub grown : Grown a (front a) (front (a ++ b))
+  grown = begun-grown (eqb (length a) 0) refl
+
+-- a whole record lies within the bytes
+pub whole-within : (bytes : List ℕ) (r : Call) → front bytes ≡ whole r → sizeOf r ≤ length bytes
+whole-within bytes r is = go (front bytes) (grown bytes []) is
+  where
+    go : (f : Front) {g : Front} → Grown bytes f g → f ≡ whole r → sizeOf r ≤ length bytes
+    go end (no-byte _) e = absurd (let z : _≡_ {A = ℕ} 0 1 = cc in omega arith)
+    go unknown no-record e = absurd (let z : _≡_ {A = ℕ} 0 1 = cc in omega arith)
+    go short (a-part _) e = absurd (let z : _≡_ {A = ℕ} 0 1 = cc in omega arith)
+    go (whole s) (a-record _ _ all) e = let same : s ≡ r = cc in rw same at all

@@ -1,4 +1,4 @@
--- Every answer that the run prints is accepted by the line call where 45 bytes are lent: its number comes from a table whose numbers
+-- Every answer that the run prints is accepted by the line call where room for a line is lent: its number comes from a table whose numbers
 -- are small, its state and its gate from the drive.
 use mathlib.Core.Path.{_≡_}
 use mathlib.Core.Bool.{Bool, true, false, _&&_, cond}
@@ -11,7 +11,7 @@ use Rattle.faults.specs.Word.{bit, any}
 use Rattle.numbers.proofs.Tests.{by-test}
 use Rattle.states.proofs.Every.{every}
 use Rattle.states.specs.States.{numberOf}
-use Rattle.drive.specs.AnyCall.{Call as Record, loads as aLoad, cycles as aCycle, ticks as aTick, reply as replyTo}
+use Rattle.drive.specs.AnyCall.{Call, loads, cycles, ticks, reply as replyTo}
 use Rattle.drive.specs.Answer.{gateOf, gate, liveWord, answer, reply}
 use Rattle.verdicts.specs.Table.{Row, told, verdict}
 use Rattle.settings.specs.Rules.{settingRows}
@@ -19,6 +19,7 @@ use Rattle.drive.specs.Refusals.{loadRows, cycleRows, tickRows}
 use Rattle.drive.specs.Calls.{settle, load, cycle, cycled}
 use Rattle.drive.specs.Ticks.{tick, ticked}
 use Rattle.drive.specs.declared.Drive.{Drive}
+use Rattle.drive.specs.declared.answer.Reply.{Reply}
 use Rattle.states.specs.declared.State.{State}
 use Rattle.verdicts.specs.declared.Verdict.{Verdict}
 use Rattle.report.specs.Refusals.{lineLength, accepts}
@@ -65,11 +66,12 @@ settle-printed v next d lent number room = go (eqb (v .number) 0)
     go true = answer-printed 0 0 next lent (omega arith) room
     go false = answer-printed (v .number) (v .place) d lent number room
 
-pub reply-printed : (d : Drive) (r : Record) (lent : ℕ) → lineLength ≤ lent → accepts (replyTo d r .answer) lent ≡ true
+pub reply-printed : (d : Drive) (r : Call) (lent : ℕ) {said : Reply} → said ≡ replyTo d r → lineLength ≤ lent
+    → accepts (said .answer) lent ≡ true
 unfolding load cycle tick small settingRows
-reply-printed d (aLoad numbers) lent room =
-    settle-printed (verdict (loadRows d numbers)) _ d lent (verdict-small (loadRows d numbers) tt) room
-reply-printed d (aCycle fields) lent room =
-    settle-printed (verdict (cycleRows d fields)) (cycled d fields) d lent (verdict-small (cycleRows d fields) tt) room
-reply-printed d (aTick fields) lent room =
-    settle-printed (verdict (tickRows d fields)) (ticked d fields) d lent (verdict-small (tickRows d fields) tt) room
+reply-printed d (loads numbers) lent same room =
+    rw same (settle-printed (verdict (loadRows d numbers)) _ d lent (verdict-small (loadRows d numbers) tt) room)
+reply-printed d (cycles fields) lent same room =
+    rw same (settle-printed (verdict (cycleRows d fields)) (cycled d fields) d lent (verdict-small (cycleRows d fields) tt) room)
+reply-printed d (ticks fields) lent same room =
+    rw same (settle-printed (verdict (tickRows d fields)) (ticked d fields) d lent (verdict-small (tickRows d fields) tt) room)

@@ -5,6 +5,7 @@ use lib.IntN.{ℤ}
 use lib.ListN.{getD}
 use mir.Syntax.{w16}
 use mir.Val.{toZ}
+use Rattle.settings.specs.Settings.{settingCount}
 use Rattle.fields.specs.declared.Cycle.{Cycle}
 use Rattle.fields.specs.declared.Tick.{Tick}
 
@@ -26,14 +27,23 @@ numbers zero at bytes = []
 numbers (suc count) at bytes = number at bytes ∷ numbers count (at + 2) bytes
 
 -- "L and 24 numbers"
+abbrev pub loadSize : ℕ
+loadSize = 1 + 2 * settingCount
+
 unfoldable pub settingsOf : List ℕ → List ℕ
-settingsOf bytes = numbers 24 1 bytes
+settingsOf bytes = numbers settingCount 1 bytes
 
 -- "C, pattern byte and two numbers"
+abbrev pub cycleSize : ℕ
+cycleSize = 1 + 1 + 2 * 2
+
 unfoldable pub cycleOf : List ℕ → Cycle
 cycleOf bytes = record { pattern = byte 1 bytes; first = number 2 bytes; second = number 4 bytes }
 
 -- "T, three bytes and eight numbers, in field order"
+abbrev pub tickSize : ℕ
+tickSize = 1 + 3 + 2 * 8
+
 unfoldable pub tickOf : List ℕ → Tick
 tickOf bytes =
     record {

@@ -1,14 +1,14 @@
 -- Document 01, "Report line and program": what stands at the front of a list of bytes.
 use mathlib.Core.Bool.{cond}
-use Prim.Native.Nat.{ℕ, _+_}
+use Prim.Native.Nat.{ℕ, _-_}
 use Prim.Native.Char.{code}
 use mathlib.Core.List.{List}
 use lib.Dec.{eqb, ltb}
 use lib.ListN.{length}
 use Rattle.drive.specs.AnyCall.{Call, loads, cycles, ticks}
-use Rattle.records.specs.Decoded.{byte, settingsOf, cycleOf, tickOf}
+use Rattle.records.specs.Decoded.{byte, loadSize, settingsOf, cycleSize, cycleOf, tickSize, tickOf}
 use Rattle.records.specs.declared.Found.{Found}
-use Rattle.records.specs.declared.Found.the-variants.{End, Unknown, Short, Load as LoadAt, Cycle as CycleAt, Tick as TickAt}
+use Rattle.records.specs.declared.Found.the-variants.{End, Unknown, Short, Load, Cycle, Tick}
 
 -- no byte; a byte that begins no record; a record whose last bytes are missing; a whole record, as the call that it asks for
 pub data Front : Type 0 where
@@ -17,11 +17,10 @@ pub data Front : Type 0 where
   short : Front
   whole : Call → Front
 
--- one letter, and then 24 numbers; a byte and two numbers; three bytes and eight numbers
 abbrev pub sizeOf : Call → ℕ
-sizeOf (loads numbers) = 49
-sizeOf (cycles fields) = 6
-sizeOf (ticks fields) = 20
+sizeOf (loads numbers) = loadSize
+sizeOf (cycles fields) = cycleSize
+sizeOf (ticks fields) = tickSize
 
 -- the record, where so many bytes hold all of it
 abbrev pub held : ℕ → Call → Front
@@ -37,11 +36,21 @@ begun letter left bytes =
 unfoldable pub front : List ℕ → Front
 front bytes = cond (eqb (length bytes) 0) end (begun (byte 0 bytes) (length bytes) bytes)
 
--- what the reader tells of it: the kind of a whole record, and where the next one starts
-abbrev pub told : ℕ → Front → Found
-told at end = End
-told at unknown = Unknown
-told at short = Short
-told at (whole (loads numbers)) = LoadAt (at + 49)
-told at (whole (cycles fields)) = CycleAt (at + 6)
-told at (whole (ticks fields)) = TickAt (at + 20)
+-- what the reader hands on: no enum of the code holds an array, so the numbers of a load stay in their bytes
+abbrev pub found : Front → Found
+found end = End
+found unknown = Unknown
+found short = Short
+found (whole (loads numbers)) = Load
+found (whole (cycles fields)) = Cycle fields
+found (whole (ticks fields)) = Tick fields
+
+-- the shortest record and the longest, and how many bytes a part of a record can have
+abbrev pub shortest : ℕ
+shortest = cycleSize
+
+abbrev pub longest : ℕ
+longest = loadSize
+
+abbrev pub mostHeld : ℕ
+mostHeld = longest - 1

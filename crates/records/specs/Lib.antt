@@ -1,3 +1,4 @@
 pub mod Decoded
 pub mod Front
 pub mod Run
+pub mod Stream

@@ -4,9 +4,10 @@ use mathlib.Core.Bool.{Bool, true, false, cond}
 use mathlib.Core.List.{List, [], _++_}
 use lib.Dec.{ltb}
 use lib.ListN.{length, drop}
-use Rattle.drive.specs.Answer.{answer}
+use Rattle.drive.specs.Answer.{reply as shown}
 use Rattle.drive.specs.AnyCall.{Call, reply}
 use Rattle.drive.specs.declared.Drive.{Drive}
+use Rattle.drive.specs.declared.answer.Reply.{Reply}
 use Rattle.report.specs.Refusals.{lineLength}
 use Rattle.report.specs.Line.{line}
 use Rattle.records.specs.Front.{sizeOf, Front, end, unknown, short, whole, front}
@@ -24,9 +25,13 @@ pub record Outcome : Type 0 where
 abbrev pub rest : Drive → Outcome
 rest d = record { lines = []; drive = d; taken = 0; ended = false }
 
+-- the line of a reply, for so many bytes
+abbrev pub lined : Reply → ℕ → Bool → Outcome
+lined said taken ended = record { lines = line (said .answer); drive = said .drive; taken = taken; ended = ended }
+
 -- "a line with number 6 shows the unchanged state and ends the run"
 abbrev pub refused : Drive → Outcome
-refused d = record { lines = line (answer 6 0 d); drive = d; taken = 0; ended = true }
+refused d = lined (shown 6 0 d) 0 true
 
 -- these lines for so many bytes, and then whatever comes after
 abbrev pub onto : List ℕ → ℕ → Outcome → Outcome
@@ -57,10 +62,10 @@ runs (suc fuel) closed room bytes d =
 abbrev pub run : Bool → ℕ → List ℕ → Drive → Outcome
 run closed room bytes d = runs (length bytes) closed room bytes d
 
--- what the caller is told of it
-abbrev pub told : Outcome → Ran
-told o = record { drive = o .drive; taken = o .taken; written = length (o .lines); ended = o .ended }
+-- what the caller is handed of it
+abbrev pub ranOf : Outcome → Ran
+ranOf o = record { drive = o .drive; taken = o .taken; written = length (o .lines); ended = o .ended }
 
 -- the lines, and after them what the lent bytes held
-abbrev pub written : Outcome → List ℕ → List ℕ
-written o lent = o .lines ++ drop (length (o .lines)) lent
+abbrev pub outputAfter : Outcome → List ℕ → List ℕ
+outputAfter o lent = o .lines ++ drop (length (o .lines)) lent

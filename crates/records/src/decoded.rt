@@ -6,7 +6,7 @@ use settings::SETTING_COUNT;
 ghost use mathlib.Core.Path.{_≡_};
 ghost use Prim.Native.Nat.{_+_, _*_, _<_, _≤_};
 ghost use lib.ListN.{length};
-ghost use Rattle.records.specs.Decoded.{number, signedNumber, settingsOf, cycleOf, tickOf};
+ghost use Rattle.records.specs.Decoded.{number, signedNumber, loadSize, settingsOf, cycleSize, cycleOf, tickSize, tickOf};
 
 // Two bytes as a number, high first.
 fn joined(high: u8, low: u8) -> u16
@@ -29,14 +29,14 @@ fn signed_number(bytes: &[u8], at: usize) -> i16
     signed(number(bytes, at))
 }
 
-// The 24 numbers of a load.
+// The numbers of a load.
 pub(crate) fn settings_of(bytes: &[u8]) -> [u16; SETTING_COUNT]
-    requires { ⌜ 49 ≤ length (now bytes) ⌝ }
+    requires { ⌜ loadSize ≤ length (now bytes) ⌝ }
     ensures { λ r. ⌜ r ≡ settingsOf (now (bytes .entry)) ⌝ }
 {
     let mut settings = [0u16; SETTING_COUNT];
     let mut i: usize = 0;
-    while i < 24 {
+    while i < SETTING_COUNT {
         settings[i] = number(bytes, 1 + 2 * i);
         i += 1;
     }
@@ -44,7 +44,7 @@ pub(crate) fn settings_of(bytes: &[u8]) -> [u16; SETTING_COUNT]
 }
 
 pub(crate) fn cycle_of(bytes: &[u8]) -> Cycle
-    requires { ⌜ 6 ≤ length (now bytes) ⌝ }
+    requires { ⌜ cycleSize ≤ length (now bytes) ⌝ }
     ensures { λ r. ⌜ r ≡ cycleOf (now (bytes .entry)) ⌝ }
 {
     Cycle {
@@ -55,7 +55,7 @@ pub(crate) fn cycle_of(bytes: &[u8]) -> Cycle
 }
 
 pub(crate) fn tick_of(bytes: &[u8]) -> Tick
-    requires { ⌜ 20 ≤ length (now bytes) ⌝ }
+    requires { ⌜ tickSize ≤ length (now bytes) ⌝ }
     ensures { λ r. ⌜ r ≡ tickOf (now (bytes .entry)) ⌝ }
 {
     Tick {

@@ -1,4 +1,4 @@
--- The fields of a line, each stored where the one before it ends, are the line; it has 45 bytes whatever the answer.
+-- The fields of a line, each stored where the one before it ends, are the line; it has its length whatever the answer.
 use Prim.Native.Nat.{ℕ}
 use native.Mathlib.Omega.{arith}
 use mathlib.Core.Path.{_≡_}

@@ -47,5 +47,5 @@ line answer =
     ++ text "\n"
 
 -- "lent bytes after them unchanged"; "A refusal changes .. no lent byte"
-abbrev pub written : Answer → List ℕ → List ℕ
-written answer lent = cond (accepts answer (length lent)) (line answer ++ drop lineLength lent) lent
+abbrev pub lentAfter : Answer → List ℕ → List ℕ
+lentAfter answer lent = cond (accepts answer (length lent)) (line answer ++ drop lineLength lent) lent

@@ -21,9 +21,9 @@ lineRows answer lent =
     ∷ []
 
 -- "The line call answers number and place only."
-abbrev pub told : Answer → ℕ → Verdict
-told answer lent = verdict (lineRows answer lent)
+abbrev pub lineVerdict : Answer → ℕ → Verdict
+lineVerdict answer lent = verdict (lineRows answer lent)
 
 -- "0 | accepted"
 abbrev pub accepts : Answer → ℕ → Bool
-accepts answer lent = eqb (told answer lent .number) 0
+accepts answer lent = eqb (lineVerdict answer lent .number) 0

@@ -7,16 +7,16 @@ use verdicts::ACCEPTED;
 use verdicts::Verdict;
 ghost use mathlib.Core.Path.{_≡_};
 ghost use lib.ListN.{length};
-ghost use Rattle.report.specs.Refusals.{told};
-ghost use Rattle.report.specs.Line.{written};
+ghost use Rattle.report.specs.Refusals.{lineVerdict};
+ghost use Rattle.report.specs.Line.{lentAfter};
 
 // How many bytes a line has.
-const LINE_LENGTH: usize = 45;
+pub const LINE_LENGTH: usize = 45;
 
 // Writes the line of an answer to the front of the lent bytes; refused, it writes nothing.
 pub fn line(answer: Answer, lent: &mut [u8]) -> Verdict
-    ensures { λ r. ⌜ r ≡ told answer (length (now (lent .entry))) ⌝ }
-    ensures { λ _. ⌜ now (lent .exit) ≡ written answer (now (lent .entry)) ⌝ }
+    ensures result { λ r. ⌜ r ≡ lineVerdict answer (length (now (lent .entry))) ⌝ }
+    ensures lent { λ _. ⌜ now (lent .exit) ≡ lentAfter answer (now (lent .entry)) ⌝ }
 {
     if lent.len() < LINE_LENGTH {
         return Verdict {

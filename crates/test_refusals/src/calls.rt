@@ -6,9 +6,10 @@ use drive::answer::Reply;
 use fields::Cycle;
 use fields::Tick;
 use numbers::signed;
+use settings::SETTING_COUNT;
 ghost use Prim.Native.Nat.{_<_};
 
-pub(crate) const LOAD: usize = 24;
+pub(crate) const LOAD: usize = SETTING_COUNT;
 
 pub(crate) const CYCLE: usize = 31;
 

@@ -9,9 +9,10 @@ mod tables;
 use calls::CYCLE;
 use calls::LOAD;
 use calls::TICK;
+use settings::SETTING_COUNT;
 
 fn main() {
-    parts::part(b"setting", LOAD, 0, 24);
+    parts::part(b"setting", LOAD, 0, SETTING_COUNT);
     sizes::each();
     states::walk();
     parts::part(b"cycle field", CYCLE, 30, 33);

@@ -4,7 +4,9 @@ use check::same;
 use drive::Drive;
 use libc::STDIN_FILENO;
 use libc::STDOUT_FILENO;
+use records::CYCLE_SIZE;
 use records::run;
+use report::LINE_LENGTH;
 ghost use Prim.Native.Nat.{_≤_};
 ghost use lib.ListN.{length};
 
@@ -60,11 +62,15 @@ const UNKNOWN: usize = 4;
 
 const CUT: usize = 20;
 
-// The shortest record has 6 bytes and a line 45, so 7,680 bytes hold the lines of everything that 1,024 bytes can ask for.
+const INPUT_SIZE: usize = 1024;
+
+// The lines of everything that the input can ask for: the shortest record is a cycle.
+const OUTPUT_SIZE: usize = LINE_LENGTH * (INPUT_SIZE / CYCLE_SIZE + 1);
+
 fn main() {
-    let mut input = [0u8; 1024];
-    let mut whole = [0u8; 7680];
-    let mut parts = [0u8; 7680];
+    let mut input = [0u8; INPUT_SIZE];
+    let mut whole = [0u8; OUTPUT_SIZE];
+    let mut parts = [0u8; OUTPUT_SIZE];
     let count = io::read_full(STDIN_FILENO, &mut input);
     compare(&input[..count], &mut whole, &mut parts);
     if CUT < count {

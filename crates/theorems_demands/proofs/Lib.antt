@@ -11,5 +11,3 @@ pub mod Computes
 pub mod Bench
 pub mod NamedRuns
 pub mod WrongDrives
-mod Grown
-pub mod Stream

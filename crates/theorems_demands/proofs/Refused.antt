@@ -26,11 +26,11 @@ use Rattle.motor.specs.declared.Watched.{Watched}
 use Rattle.moves.specs.declared.Move.{Move}
 use Rattle.moves.specs.declared.Move.the-variants.{Stay, Enter, Measure, Clear, Retry}
 use Rattle.verdicts.specs.declared.Verdict.{Verdict}
-use Rattle.report.specs.Refusals.{lineLength, told, accepts}
-use Rattle.report.specs.Line.{line, written}
+use Rattle.report.specs.Refusals.{lineLength, lineVerdict as told, accepts}
+use Rattle.report.specs.Line.{line, lentAfter as written}
 use Rattle.report.proofs.Fields.{length-line}
 use Rattle.records.specs.Front.{Front, end, unknown, short, whole, front}
-use Rattle.records.specs.Run.{Outcome, rest, refused, follow, runs, told as ranOf, written as ranWritten}
+use Rattle.records.specs.Run.{Outcome, rest, refused, follow, runs, ranOf, outputAfter as ranWritten}
 use Rattle.theorems_reached.proofs.Verdicts.{settles, settled}
 
 -- the table of refusals of a call

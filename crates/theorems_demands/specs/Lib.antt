@@ -2,4 +2,3 @@ pub mod Supervised
 pub mod NamedCalls
 pub mod Bench
 pub mod NamedRuns
-pub mod Stream

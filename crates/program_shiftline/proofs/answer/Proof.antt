@@ -1,4 +1,4 @@
--- `answer` keeps what the run left and did not take; a run takes and writes no more than it is lent.
+-- `answer` holds what the run left and did not take; a run takes and writes no more than it is lent.
 -- Whether there is to be a next read follows from what the run told of its end.
 use mathlib.Core.Bool.{Bool, _&&_, not}
 use mathlib.Core.Path.{_≡_, ap, sym, _∙_}
@@ -21,7 +21,7 @@ slice-aggregate-write-all c =
     let run = c .before .before .before .before .run in
     sym (length-take-le _ _ (omega (arith, run .ensures .1 .1 .1, run .kept .1 .1 .1 .0)))
 
--- what `moved` leaves at the front is the rest of what the run was lent
+-- what `move_to_front` leaves at the front is the rest of what the run was lent
 front : (taken filled : ℕ) (before after : List ℕ) (held : ℕ) → taken ≤ filled → filled ≤ length before → held ≡ filled - taken
     → after ≡ take (filled - taken) (drop taken before) ++ drop (filled - taken) before
     → take held after ≡ take held (drop taken before)
@@ -35,14 +35,14 @@ taken-within c =
     let start = c .before .before .before .before .before in
     omega (arith, c .run .ensures .1 .1 .0, length-take-le (start .args .filled) (now (start .args .input)) (start .pre))
 
-moved-requires : tie.Need-moved-requires
-moved-requires c κs =
+move-to-front-requires : tie.Need-move-to-front-requires
+move-to-front-requires c κs =
     let after-run = c .before .before .before .before .before .before in
     (taken-within after-run, after-run .before .before .before .before .before .pre)
 
 returns : tie.Need-returns
 returns c =
-    let moved = c .before .before .moved in
+    let moved = c .before .before .move-to-front in
     let after-run = c .before .before .before .before .before .before .before .before .before in
     let ran = after-run .run .result in
     let start = after-run .before .before .before .before .before in
@@ -71,7 +71,7 @@ answer-spec =
     (λ c. search needs)
     slice-aggregate-write-all
     (λ c κs. search needs)
-    moved-requires
+    move-to-front-requires
     (λ c. search needs)
     (λ c. search needs)
     returns)

@@ -1,5 +1,5 @@
--- `serve` is safe and ends: both buffers keep their length, what is held stays within its buffer, and the turns fall.
--- It makes a turn only where its test has shown that there is to be a next read.
+-- `serve` is safe and ends: both buffers keep their length, what is held stays within its buffer, and the reads fall.
+-- It reads only where its test has shown that there is to be a next read.
 use mathlib.Core.Path.{_≡_, refl, _∙_}
 use Prim.Native.Nat.{_≤_}
 use native.Mathlib.Omega.{arith}
@@ -9,25 +9,25 @@ use Rattle.program_shiftline.proofs.serve.Statement.{statement}
 use Rattle.program_shiftline.proofs.serve.Tie as tie
 
 abbrev Inv-loop : tie.InvT-loop
-Inv-loop input₀ output₀ turns₀ kept₀ input output turns kept =
-    (length input ≡ length input₀) × (length output ≡ length output₀) × (kept .held ≤ length input)
+Inv-loop input₀ output₀ reads₀ held₀ input output reads held =
+    (length input ≡ length input₀) × (length output ≡ length output₀) × (held .count ≤ length input)
 
 abbrev μ-loop : tie.MeasureT-loop
-μ-loop input₀ output₀ turns₀ kept₀ input output turns kept = turns
+μ-loop input₀ output₀ reads₀ held₀ input output reads held = reads
 
 loop-holds : tie.Need-loop-holds Inv-loop μ-loop
 loop-holds c = (refl, refl, omega arith)
 
-turn-requires : tie.Need-turn-requires Inv-loop μ-loop
-turn-requires c κs = search needs
+read-on-requires : tie.Need-read-on-requires Inv-loop μ-loop
+read-on-requires c κs = search needs
 
 loop-again : tie.Need-loop-again Inv-loop μ-loop
 loop-again c =
-    let turn = c .before .before .before .before .turn in
+    let read-on = c .before .before .before .before .read-on in
     let inv = c .before .before .before .before .before .before .before .before .before .loop .inv in (
-      turn .kept .1 .0 ∙ inv .0,
-      turn .kept .1 .1 .0 ∙ inv .1,
-      omega (arith, turn .ensures .0, turn .kept .1 .0),
+      read-on .kept .1 .0 ∙ inv .0,
+      read-on .kept .1 .1 .0 ∙ inv .1,
+      omega (arith, read-on .ensures .0, read-on .kept .1 .0),
     )
 
 pub serve-spec : {M : Type 1} → statement M
@@ -38,7 +38,7 @@ serve-spec =
     μ-loop
     (λ c κs. search needs)
     loop-holds
-    turn-requires
+    read-on-requires
     (λ c. search needs)
     (λ c. search needs)
     loop-again

@@ -7,10 +7,11 @@ use native.Mathlib.Omega.{arith}
 use lib.Dec.{eqb}
 use lib.ListN.{length, getD, drop, length-drop}
 use lib.Seq.{getD-drop}
-use denote.Ref.{now}
 use borrow.Author.Needs.{needs}
 use borrow.Author.Tests.{eq-eqb, le-ltb, lt-ltb, ne-eqb}
+use Rattle.records.specs.Decoded.{loadSize, cycleSize, tickSize}
 use Rattle.records.specs.Front.{front, end, begun}
+use Rattle.records.proofs.Parts.{tail}
 use Rattle.records.proofs.read.Statement.{statement}
 use Rattle.records.proofs.read.Tie as tie
 
@@ -31,76 +32,69 @@ some-left : (bytes : List ℕ) (at : ℕ) → at < length bytes
 some-left bytes at within = rw (from bytes at, ne-eqb (length bytes - at) 0 (λ none. omega (arith, none)))
 
 returns : tie.Need-returns
-returns c =
-    rw (none-left (now (c .before .args .input)) (c .before .args .at) (c .if1 .taken))
+returns c = rw (none-left _ _ (c .if1 .taken))
 
 returns-2 : tie.Need-returns-2
-returns-2 c =
-    let start = c .before .before .before .before in
-    rw (
-      some-left (now (start .args .input)) (start .args .at) (c .before .before .before .if1 .left),
-      eq-eqb _ _ (c .before .if2 .taken),
-      lt-ltb _ 49 (c .if3 .taken),
-    )
+returns-2 c = rw (some-left _ _ (c .before .before .before .if1 .left), eq-eqb _ _ (c .before .if2 .taken), lt-ltb _ loadSize (c .if3 .taken))
 
 returns-3 : tie.Need-returns-3
-returns-3 c =
-    let start = c .before .before .before .before in
-    rw (
-      some-left (now (start .args .input)) (start .args .at) (c .before .before .before .if1 .left),
-      eq-eqb _ _ (c .before .if2 .taken),
-      le-ltb _ 49 (c .if3 .left),
-    )
+returns-3 c = rw (some-left _ _ (c .before .before .before .if1 .left), eq-eqb _ _ (c .before .if2 .taken), le-ltb _ loadSize (c .if3 .left))
 
 returns-4 : tie.Need-returns-4
 returns-4 c =
-    let start = c .before .before .before .before .before in
+    let else2 = c .before .before in
     rw (
-      some-left (now (start .args .input)) (start .args .at) (c .before .before .before .before .if1 .left),
-      ne-eqb _ _ (c .before .before .if2 .left),
+      some-left _ _ (else2 .before .before .if1 .left),
+      ne-eqb _ _ (else2 .if2 .left),
       eq-eqb _ _ (c .before .if4 .taken),
-      lt-ltb _ 6 (c .if5 .taken),
+      lt-ltb _ cycleSize (c .if5 .taken),
     )
 
 returns-5 : tie.Need-returns-5
 returns-5 c =
-    let start = c .before .before .before .before .before in
+    let fits = c .before .before in
+    let else2 = fits .before .before in
     rw (
-      some-left (now (start .args .input)) (start .args .at) (c .before .before .before .before .if1 .left),
-      ne-eqb _ _ (c .before .before .if2 .left),
-      eq-eqb _ _ (c .before .if4 .taken),
-      le-ltb _ 6 (c .if5 .left),
+      some-left _ _ (else2 .before .before .if1 .left),
+      ne-eqb _ _ (else2 .if2 .left),
+      eq-eqb _ _ (fits .before .if4 .taken),
+      le-ltb _ cycleSize (fits .if5 .left),
+      c .cycle-of .ensures,
+      tail,
     )
 
 returns-6 : tie.Need-returns-6
 returns-6 c =
-    let start = c .before .before .before .before .before .before in
+    let else4 = c .before .before in
     rw (
-      some-left (now (start .args .input)) (start .args .at) (c .before .before .before .before .before .if1 .left),
-      ne-eqb _ _ (c .before .before .before .if2 .left),
-      ne-eqb _ _ (c .before .before .if4 .left),
+      some-left _ _ (else4 .before .before .before .if1 .left),
+      ne-eqb _ _ (else4 .before .if2 .left),
+      ne-eqb _ _ (else4 .if4 .left),
       eq-eqb _ _ (c .before .if6 .taken),
-      lt-ltb _ 20 (c .if7 .taken),
+      lt-ltb _ tickSize (c .if7 .taken),
     )
 
 returns-7 : tie.Need-returns-7
 returns-7 c =
-    let start = c .before .before .before .before .before .before in
+    let fits = c .before .before in
+    let else4 = fits .before .before in
     rw (
-      some-left (now (start .args .input)) (start .args .at) (c .before .before .before .before .before .if1 .left),
-      ne-eqb _ _ (c .before .before .before .if2 .left),
-      ne-eqb _ _ (c .before .before .if4 .left),
-      eq-eqb _ _ (c .before .if6 .taken),
-      le-ltb _ 20 (c .if7 .left),
+      some-left _ _ (else4 .before .before .before .if1 .left),
+      ne-eqb _ _ (else4 .before .if2 .left),
+      ne-eqb _ _ (else4 .if4 .left),
+      eq-eqb _ _ (fits .before .if6 .taken),
+      le-ltb _ tickSize (fits .if7 .left),
+      c .tick-of .ensures,
+      tail,
     )
 
 returns-8 : tie.Need-returns-8
 returns-8 c =
-    let start = c .before .before .before .before .before in
+    let else4 = c .before in
     rw (
-      some-left (now (start .args .input)) (start .args .at) (c .before .before .before .before .if1 .left),
-      ne-eqb _ _ (c .before .before .if2 .left),
-      ne-eqb _ _ (c .before .if4 .left),
+      some-left _ _ (else4 .before .before .before .if1 .left),
+      ne-eqb _ _ (else4 .before .if2 .left),
+      ne-eqb _ _ (else4 .if4 .left),
       ne-eqb _ _ (c .if6 .left),
     )
 
@@ -112,12 +106,17 @@ read-spec =
     (λ c. search needs)
     (λ c. search needs)
     returns-2
-    (λ c. search needs)
     returns-3
     returns-4
     (λ c. search needs)
+    (λ c. search needs)
+    (λ c. search needs)
+    (λ c κs. search needs)
     returns-5
     returns-6
     (λ c. search needs)
+    (λ c. search needs)
+    (λ c. search needs)
+    (λ c κs. search needs)
     returns-7
     returns-8)

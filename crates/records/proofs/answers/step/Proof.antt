@@ -1,141 +1,116 @@
 -- `step` does what stands at the front: each arm meets the case of the definition that the reader's answer means.
-use mathlib.Core.Path.{_≡_, refl, sym, _∙_}
-use mathlib.Core.Bool.{Bool}
+use mathlib.Core.Path.{_≡_, refl, ap, sym, _∙_}
+use mathlib.Core.Bool.{Bool, false, cond}
 use mathlib.Core.List.{List}
-use Prim.Native.Nat.{ℕ, suc, _+_, _-_, _≤_}
+use Prim.Native.Nat.{ℕ, _+_, _≤_}
 use native.Mathlib.Omega.{arith}
 use lib.ListN.{length, drop, length-drop}
 use denote.Ref.{now}
 use borrow.Author.Needs.{needs}
-use Rattle.drive.specs.declared.Drive.{Drive}
+use Rattle.drive.specs.AnyCall.{Call, loads, cycles, ticks, reply}
 use Rattle.drive.specs.declared.answer.Reply.{Reply}
-use Rattle.report.specs.Line.{written as lineWritten}
-use Rattle.report.specs.Refusals.{lineLength}
-use Rattle.drive.specs.AnyCall.{Call as Record, loads as load, cycles as cycle, ticks as tick, reply}
-use Rattle.records.specs.Decoded.{settingsOf, cycleOf, tickOf}
-use Rattle.records.specs.Front.{sizeOf, whole, front}
-use Rattle.records.specs.Run.{Outcome, runs, told, written}
+use Rattle.records.specs.Decoded.{loadSize, settingsOf}
+use Rattle.records.specs.Front.{sizeOf, Front, whole, front}
+use Rattle.records.specs.Run.{Outcome, rest, refused, lined, runs, ranOf, outputAfter}
 use Rattle.records.specs.declared.Ran.{Ran}
 use Rattle.records.specs.declared.Found.{Found}
-use Rattle.records.specs.declared.Found.the-variants.{End, Unknown, Short, Load as LoadAt, Cycle as CycleAt, Tick as TickAt}
-use Rattle.records.proofs.Meaning.{Meaning, meaning}
-use Rattle.records.proofs.One.{ran, at-tight, at-end, at-unknown, at-short-open, at-short-closed, whole-told, whole-written}
+use Rattle.records.specs.declared.Found.the-variants.{End, Unknown, Short, Load, Cycle, Tick}
+use Rattle.records.proofs.Parts.{tail}
+use Rattle.records.proofs.Printed.{reply-printed}
+use Rattle.records.proofs.WhatIsFound.{Meaning, meaning}
+use Rattle.records.proofs.ByFront.{at-tight, by-front, one-whole}
 use Rattle.records.proofs.answers.step.Statement.{statement}
 use Rattle.records.proofs.answers.step.Tie as tie
 
--- a record within the bytes from `at` on lies within the whole
-reaches : (bytes : List ℕ) (at size : ℕ) → suc size ≤ length (drop at bytes) → at + suc size ≤ length bytes
-reaches bytes at size all = omega (arith, length-drop at bytes)
+-- what was done is what the definition says, where that comes to `o`
+abbrev Met : Outcome → List ℕ → Ran → List ℕ → Type 0
+Met o lent result left = (result ≡ ranOf o) × (left ≡ outputAfter o lent)
 
--- what was done is what the definition says, where the definition comes to `o`
-met : (lent : List ℕ) {whole o : Outcome} {left : List ℕ} {result : Ran}
-    → whole ≡ o → result ≡ told o → left ≡ written o lent
-    → (result ≡ told whole) × (left ≡ written whole lent)
-met lent is result left = rw is (result, left)
-
-module _ (closed : Bool) (lent bytes : List ℕ) (d : Drive) (wide : lineLength ≤ length lent) (r : Record) (is : front bytes ≡ whole r) where
-  whole-met : (at next : ℕ) {said : Reply} {left : List ℕ} {result : Ran}
-      → said ≡ reply d r → next ≡ at + sizeOf r → result ≡ ran said (next - at) → left ≡ lineWritten (said .answer) lent
-      → (result ≡ told (runs 1 closed (length lent) bytes d)) × (left ≡ written (runs 1 closed (length lent) bytes d) lent)
-  whole-met at next {said} same past result left = (
-    result ∙ whole-told closed (length lent) bytes d wide r is said (next - at) same (omega arith),
-    left ∙ whole-written closed lent bytes d wide r said is same,
-  )
-
--- the bytes that were read, and what the reader's answer says of them
-abbrev bytes : tie.After-read → List ℕ
-bytes c = drop (c .before .before .before .before .args .at) (now (c .before .before .before .before .args .input))
-
-means : (c : tie.After-read) (found : Found) → c .read .result ≡ found → Meaning (bytes c) (c .before .before .before .before .args .at) found
-means c found known = meaning (bytes c) (c .before .before .before .before .args .at) found (sym known ∙ c .read .ensures)
+met : (lent : List ℕ) {said o : Outcome} {result : Ran} {left : List ℕ} → said ≡ o → Met o lent result left → Met said lent result left
+met lent is done = rw is done
 
 returns : tie.Need-returns
-returns c =
-    let args = c .before .before .before .before .args in
-    met (now (args .output))
-    (at-tight 0 (args .closed) _ (drop (args .at) (now (args .input))) (args .drive) (c .before .if1 .taken))
-    (c .resting .ensures) refl
+returns c = met _ (at-tight 0 _ _ _ _ (c .before .if1 .taken)) (c .resting .ensures, refl)
 
-load-at-requires : tie.Need-load-at-requires
-load-at-requires c κs = reaches _ _ 48 (means (c .before .before .before) (LoadAt _) (c .before .next .given .1) .1)
+module _ (c : tie.After-read) where
+  abbrev start : tie.Start
+  start = c .before .before .before .before
 
-sub-answering : tie.Need-sub-answering
-sub-answering c = omega (arith, means (c .before .before .before .before) (LoadAt (c .before .before .next .given .0 .0)) (c .before .before .next .given .1) .2)
+  -- the bytes that were read, and what the reader's answer says of them
+  abbrev bytes : List ℕ
+  bytes = drop (start .args .at) (now (start .args .input))
 
-cycle-at-requires : tie.Need-cycle-at-requires
-cycle-at-requires c κs = reaches _ _ 5 (means (c .before .before .before) (CycleAt _) (c .before .next2 .given .1) .1)
+  means : (said : Found) → c .read .result ≡ said → Meaning bytes said
+  means said known = meaning bytes said (sym known ∙ c .read .ensures)
 
-sub-answering-2 : tie.Need-sub-answering-2
-sub-answering-2 c = omega (arith, means (c .before .before .before .before) (CycleAt (c .before .before .next2 .given .0 .0)) (c .before .before .next2 .given .1) .2)
+  abbrev meant : Outcome
+  meant = runs 1 (start .args .closed) (length (now (start .args .output))) bytes (start .args .drive)
 
-tick-at-requires : tie.Need-tick-at-requires
-tick-at-requires c κs = reaches _ _ 19 (means (c .before .before .before) (TickAt _) (c .before .next3 .given .1) .1)
+  -- a whole record, and the reply to it
+  module _ (r : Call) (is : front bytes ≡ whole r) {said : Reply} (same : said ≡ reply (start .args .drive) r) where
+    replied : {result : Ran} {left : List ℕ}
+        → Met (lined said (sizeOf r) false) (now (start .args .output)) result left
+        → Met meant (now (start .args .output)) result left
+    replied done = met _ (one-whole _ _ _ _ (c .before .if1 .left) r is) (rw same at done)
 
-sub-answering-3 : tie.Need-sub-answering-3
-sub-answering-3 c = omega (arith, means (c .before .before .before .before) (TickAt (c .before .before .next3 .given .0 .0)) (c .before .before .next3 .given .1) .2)
+loaded : (c : tie.After-enum-told4) → Meaning (bytes (c .before .before)) Load
+loaded c = means (c .before .before) Load (c .enum-told4 .given .1)
+
+fits : (c : tie.After-enum-told4) → start (c .before .before) .args .at + loadSize ≤ length (now (start (c .before .before) .args .input))
+fits c = omega (arith, loaded c .1, length-drop (start (c .before .before) .args .at) (now (start (c .before .before) .args .input)))
+
+-- what the load is answered
+same-load : (c : tie.After-load-settings)
+    → c .load-settings .result
+    ≡ reply (start (c .before .before .before .before .before) .args .drive) (loads (settingsOf (bytes (c .before .before .before .before .before))))
+same-load c = c .load-settings .ensures ∙ rw (c .before .settings-of .ensures, tail)
 
 returns-2 : tie.Need-returns-2
 returns-2 c =
     let read = c .before .before .before in
-    let args = read .before .before .before .before .args in
-    let found = means read End (c .before .enum-told .given .1) in
-    met (now (args .output))
-    (at-end 0 (args .closed) _ (bytes read) (args .drive) (read .before .if1 .left) found)
-    (c .resting2 .ensures) refl
+    met _ (by-front 0 _ _ _ _ (read .before .if1 .left) (means read End (c .before .enum-told .given .1))) (c .resting2 .ensures, refl)
 
 returns-3 : tie.Need-returns-3
 returns-3 c =
     let read = c .before .before .before .before .before .before in
-    let args = read .before .before .before .before .args in
-    let found = means read Unknown (c .before .before .before .before .enum-told2 .given .1) in
-    met (now (args .output))
-    (at-unknown 0 (args .closed) _ (bytes read) (args .drive) (read .before .if1 .left) found)
-    (c .before .before .refusing .ensures .0) (c .before .before .refusing .ensures .1)
+    met _ (by-front 0 _ _ _ _ (read .before .if1 .left) (means read Unknown (c .before .before .before .before .enum-told2 .given .1)))
+    (c .before .before .refusing .ensures)
 
 returns-4 : tie.Need-returns-4
 returns-4 c =
-    let read = c .before .before .before .before .before .before .before in
-    let args = read .before .before .before .before .args in
-    let found = means read Short (c .before .before .before .before .before .enum-told3 .given .1) in
-    met (now (args .output))
-    (at-short-closed 0 (args .closed) _ (bytes read) (args .drive) (read .before .if1 .left) found (c .before .before .before .before .if2 .taken))
-    (c .before .before .refusing2 .ensures .0) (c .before .before .refusing2 .ensures .1)
+    let if2 = c .before .before .before .before in
+    let read = if2 .before .before .before in
+    met _ (by-front 0 _ _ _ _ (read .before .if1 .left) (means read Short (if2 .before .enum-told3 .given .1))
+    ∙ ap (λ (b : Bool). cond b (refused (start read .args .drive)) (rest (start read .args .drive))) (if2 .if2 .taken))
+    (c .before .before .refusing2 .ensures)
 
 returns-5 : tie.Need-returns-5
 returns-5 c =
-    let read = c .before .before .before .before in
-    let args = read .before .before .before .before .args in
-    let found = means read Short (c .before .before .enum-told3 .given .1) in
-    met (now (args .output))
-    (at-short-open 0 (args .closed) _ (bytes read) (args .drive) (read .before .if1 .left) found (c .before .if2 .left))
-    (c .resting3 .ensures) refl
+    let if2 = c .before in
+    let read = if2 .before .before .before in
+    met _ (by-front 0 _ _ _ _ (read .before .if1 .left) (means read Short (if2 .before .enum-told3 .given .1))
+    ∙ ap (λ (b : Bool). cond b (refused (start read .args .drive)) (rest (start read .args .drive))) (if2 .if2 .left))
+    (c .resting3 .ensures, refl)
 
 returns-6 : tie.Need-returns-6
 returns-6 c =
-    let read = c .before .before .before .before .before .before .before .before in
-    let args = read .before .before .before .before .args in
-    let found = means read (LoadAt _) (c .before .before .before .before .before .before .next .given .1) in
-    whole-met (args .closed) (now (args .output)) (bytes read) (args .drive) (read .before .if1 .left)
-    (load (settingsOf (bytes read))) (found .0) (args .at) _ (c .before .before .before .before .load-at .ensures) (found .2)
-    (c .before .before .answering .ensures .0) (c .before .before .answering .ensures .1)
+    let load = c .before .before .before .before in
+    let told = load .before .before .before in
+    replied (told .before .before) (loads _) (loaded told .0) (same-load load) (c .before .before .answering .ensures)
 
 returns-7 : tie.Need-returns-7
 returns-7 c =
-    let read = c .before .before .before .before .before .before .before .before in
-    let args = read .before .before .before .before .args in
-    let found = means read (CycleAt _) (c .before .before .before .before .before .before .next2 .given .1) in
-    whole-met (args .closed) (now (args .output)) (bytes read) (args .drive) (read .before .if1 .left)
-    (cycle (cycleOf (bytes read))) (found .0) (args .at) _ (c .before .before .before .before .cycle-at .ensures) (found .2)
-    (c .before .before .answering2 .ensures .0) (c .before .before .answering2 .ensures .1)
+    let cycle = c .before .before .before .before in
+    let fields = cycle .before .before in
+    let read = fields .before .before in
+    replied read (cycles _) (means read (Cycle _) (fields .fields .given .1)) (cycle .cycle .ensures) (c .before .before .answering2 .ensures)
 
 returns-8 : tie.Need-returns-8
 returns-8 c =
-    let read = c .before .before .before .before .before .before .before .before in
-    let args = read .before .before .before .before .args in
-    let found = means read (TickAt _) (c .before .before .before .before .before .before .next3 .given .1) in
-    whole-met (args .closed) (now (args .output)) (bytes read) (args .drive) (read .before .if1 .left)
-    (tick (tickOf (bytes read))) (found .0) (args .at) _ (c .before .before .before .before .tick-at .ensures) (found .2)
-    (c .before .before .answering3 .ensures .0) (c .before .before .answering3 .ensures .1)
+    let tick = c .before .before .before .before in
+    let fields = tick .before .before in
+    let read = fields .before .before in
+    replied read (ticks _) (means read (Tick _) (fields .fields2 .given .1)) (tick .tick .ensures) (c .before .before .answering3 .ensures)
 
 pub step-spec : {M : Type 1} → statement M
 step-spec =
@@ -152,17 +127,18 @@ step-spec =
     (λ c κs. search needs)
     (λ c κs. search needs)
     (λ c. search needs)
-    load-at-requires
-    sub-answering
-    (λ c κs. search needs)
+    (λ c. omega (arith, fits c))
+    (λ c. omega (arith, fits c))
     (λ c. search needs)
-    cycle-at-requires
-    sub-answering-2
+    (λ c κs. simp tail (loaded (c .before) .1))
     (λ c κs. search needs)
+    (λ c κs. reply-printed _ (loads _) _ (same-load (c .before)) (c .before .before .before .before .before .before .before .if1 .left))
     (λ c. search needs)
-    tick-at-requires
-    sub-answering-3
     (λ c κs. search needs)
+    (λ c κs. reply-printed _ (cycles _) _ (c .before .cycle .ensures) (c .before .before .before .before .before .before .if1 .left))
+    (λ c. search needs)
+    (λ c κs. search needs)
+    (λ c κs. reply-printed _ (ticks _) _ (c .before .tick .ensures) (c .before .before .before .before .before .before .if1 .left))
     returns-2
     (λ c. search needs)
     returns-3

@@ -1,4 +1,4 @@
--- `turn` runs over what it held and what the read brought: the read leaves the bytes in front of its part as they were.
+-- `read_on` runs over what it held and what the read brought: the read leaves the bytes in front of its part as they were.
 use mathlib.Core.Path.{refl}
 use Prim.Native.Nat.{_-_}
 use native.Mathlib.Omega.{arith}
@@ -7,8 +7,8 @@ use denote.Ref.{now}
 use borrow.Author.Needs.{needs}
 use borrow.Rule.Slice.PartMut.{take-put}
 use Rattle.program_shiftline.specs.Rest.{failed, answered}
-use Rattle.program_shiftline.proofs.turn.Statement.{statement}
-use Rattle.program_shiftline.proofs.turn.Tie as tie
+use Rattle.program_shiftline.proofs.read_on.Statement.{statement}
+use Rattle.program_shiftline.proofs.read_on.Tie as tie
 
 returns : tie.Need-returns
 returns c = (search needs, failed refl refl refl)
@@ -16,16 +16,15 @@ returns c = (search needs, failed refl refl refl)
 returns-2 : tie.Need-returns-2
 returns-2 c =
     let answer = c .before .before .before .before .answer in
-    let count = c .before .before .before .before .before .before .before .count .result in
     let after-read = c .before .before .before .before .before .before .before .before .before .before .before .before in
     let start = after-read .before .before .before .before .before .before in
-    let held = start .args .kept .held in
+    let held = start .args .held .count in
     let buffer = now (start .args .input) in
     let front = take-put held (length buffer - held) buffer (after-read .before .read .last .1 .0) (start .pre .1) in
-    (omega (arith, answer .ensures .0, after-read .input .given .1), answered count _ front (answer .ensures .1))
+    (omega (arith, answer .ensures .0, after-read .input .given .1), answered _ _ front (answer .ensures .1))
 
-pub turn-spec : {M : Type 1} → statement M
-turn-spec =
+pub read-on-spec : {M : Type 1} → statement M
+read-on-spec =
     tie.close
     (tie.spec
     (λ c. search needs)
