@@ -35,17 +35,11 @@ module _ (c : tie.Else2) where
       let fits = c .before .before .fits .number in
       inside (c .before .before .args .number) (rw (toZ-ofZ fits) at (c .before .if1 .left)) (rw (toZ-ofZ fits) at (c .if2 .left))
 
-returns : tie.Need-returns
-returns c = above (c .before .args .number) (rw (toZ-ofZ (c .before .fits .number)) at (c .if1 .taken))
-
-returns-2 : tie.Need-returns-2
-returns-2 c = below (c .before .before .args .number) (rw (toZ-ofZ (c .before .before .fits .number)) at (c .if2 .taken))
-
-cast-result : tie.Need-cast-result
-cast-result c = rw (toZ-ofZ (c .before .before .fits .number)) (between c .0)
-
-returns-3 : tie.Need-returns-3
-returns-3 c = rw (toZ-ofZ (c .before .before .fits .number), toZ-ofZ (between c .0)) (between c .1)
-
 pub limited-spec : {M : Type 1} → statement M
-limited-spec = tie.close (tie.spec returns returns-2 cast-result returns-3)
+limited-spec =
+    tie.close
+    (tie.spec
+    (λ c. above (c .before .args .number) (rw (toZ-ofZ (c .before .fits .number)) at (c .if1 .taken)))
+    (λ c. below (c .before .before .args .number) (rw (toZ-ofZ (c .before .before .fits .number)) at (c .if2 .taken)))
+    (λ c. rw (toZ-ofZ (c .before .before .fits .number)) (between c .0))
+    (λ c. rw (toZ-ofZ (c .before .before .fits .number), toZ-ofZ (between c .0)) (between c .1)))

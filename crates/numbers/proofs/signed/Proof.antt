@@ -25,12 +25,6 @@ module _ (c : tie.Else1) where
   difference : SFits w32 (toZ w32 (c .before .args .bits) -ℤ pos 65536)
   difference = rw lower (sfits-widen tt word)
 
-cast-result-3 : tie.Need-cast-result-3
-cast-result-3 c = rw (lower c, toZ-ofZ (sfits-widen {w′ = w32} tt (word c))) (word c)
-
-returns-2 : tie.Need-returns-2
-returns-2 c = rw (lower c, toZ-ofZ (sfits-widen {w′ = w32} tt (word c)), toZ-ofZ (word c))
-
 pub signed-spec : {M : Type 1} → statement M
 signed-spec =
     tie.close
@@ -39,5 +33,5 @@ signed-spec =
     (λ c. search needs)
     (λ c. search needs)
     difference
-    cast-result-3
-    returns-2)
+    (λ c. rw (lower c, toZ-ofZ (sfits-widen {w′ = w32} tt (word c))) (word c))
+    (λ c. rw (lower c, toZ-ofZ (sfits-widen {w′ = w32} tt (word c)), toZ-ofZ (word c))))

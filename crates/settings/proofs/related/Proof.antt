@@ -4,15 +4,6 @@ use borrow.Author.Tests.{ne-eqb}
 use Rattle.settings.proofs.related.Statement.{statement}
 use Rattle.settings.proofs.related.Tie as tie
 
-returns : tie.Need-returns
-returns c = simp (c .match .keys1)
-
-returns-2 : tie.Need-returns-2
-returns-2 c = simp (c .match .keys2)
-
-returns-3 : tie.Need-returns-3
-returns-3 c = simp (c .match .keys3)
-
 returns-4 : tie.Need-returns-4
 returns-4 c =
     let others = c .match .rest in
@@ -28,7 +19,7 @@ related-spec =
     (λ c. search needs)
     (λ c. search needs)
     (λ c. search needs)
-    returns
-    returns-2
-    returns-3
+    (λ c. simp (c .match .keys1))
+    (λ c. simp (c .match .keys2))
+    (λ c. simp (c .match .keys3))
     returns-4)

@@ -18,10 +18,6 @@ refuses : (elsewhere : Bool) (next d : Drive)
 refuses true next d = refl
 refuses false next d = refl
 
-returns : tie.Need-returns
-unfolding load
-returns c = cc
-
 returns-2 : tie.Need-returns-2
 unfolding load
 returns-2 c =
@@ -31,12 +27,13 @@ returns-2 c =
     (refuses (not (is 0 (d .state) || is 1 (d .state))) (fresh Stop numbers) d)
 
 pub load-spec : {M : Type 1} → statement M
+unfolding load
 load-spec =
     tie.close
     (tie.spec
     (λ c κs. search needs)
     (λ c κs. search needs)
-    returns
+    (λ c. cc)
     (λ c κs. search needs)
     (λ c κs. search needs)
     returns-2)

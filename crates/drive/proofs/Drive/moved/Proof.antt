@@ -3,21 +3,6 @@ use borrow.Author.Needs.{needs}
 use Rattle.drive.proofs.Drive.moved.Statement.{statement}
 use Rattle.drive.proofs.Drive.moved.Tie as tie
 
-returns : tie.Need-returns
-returns c = rw (c .before .enum-told .given .1, c .stayed .ensures)
-
-returns-2 : tie.Need-returns-2
-returns-2 c = rw (c .before .before .step .given .1, c .entered .ensures)
-
-returns-3 : tie.Need-returns-3
-returns-3 c = rw (c .before .enum-told2 .given .1, c .measured .ensures)
-
-returns-4 : tie.Need-returns-4
-returns-4 c = rw (c .before .enum-told3 .given .1, c .arrive .ensures)
-
-returns-5 : tie.Need-returns-5
-returns-5 c = rw (c .before .enum-told4 .given .1, c .retried-trip .ensures)
-
 pub moved-spec : {M : Type 1} → statement M
 moved-spec =
     tie.close
@@ -32,8 +17,8 @@ moved-spec =
     (λ c κs. search needs)
     (λ c. search needs)
     (λ c κs. search needs)
-    returns
-    returns-2
-    returns-3
-    returns-4
-    returns-5)
+    (λ c. rw (c .before .enum-told .given .1, c .stayed .ensures))
+    (λ c. rw (c .before .before .step .given .1, c .entered .ensures))
+    (λ c. rw (c .before .enum-told2 .given .1, c .measured .ensures))
+    (λ c. rw (c .before .enum-told3 .given .1, c .arrive .ensures))
+    (λ c. rw (c .before .enum-told4 .given .1, c .retried-trip .ensures)))

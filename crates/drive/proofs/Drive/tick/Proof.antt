@@ -4,11 +4,8 @@ use Rattle.drive.specs.Ticks.{tick}
 use Rattle.drive.proofs.Drive.tick.Statement.{statement}
 use Rattle.drive.proofs.Drive.tick.Tie as tie
 
-returns : tie.Need-returns
-unfolding tick
-returns c = cc
-
 pub tick-spec : {M : Type 1} → statement M
+unfolding tick
 tick-spec =
     tie.close
-    (tie.spec (λ c κs. search needs) (λ c κs. search needs) (λ c κs. search needs) (λ c κs. search needs) returns)
+    (tie.spec (λ c κs. search needs) (λ c κs. search needs) (λ c κs. search needs) (λ c κs. search needs) (λ c. cc))

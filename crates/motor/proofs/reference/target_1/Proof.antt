@@ -13,20 +13,13 @@ product c =
     let gain : c .args .gain ≤ 65535 = omega (arith, c .fits .gain .fits) in
     mul-le-mul above gain
 
-returns : tie.Need-returns
-returns c = (rw (lt-ltb _ _ (c .if1 .taken)), c .before .fits .minimum .fits)
-
-mul-sum : tie.Need-mul-sum
-mul-sum c = record { fits = omega (arith, product (c .before)) }
-
-add-sum : tie.Need-add-sum
-add-sum c = record { fits = omega (arith, product (c .before), c .before .fits .minimum .fits) }
-
-returns-2 : tie.Need-returns-2
-returns-2 c = (rw (le-ltb _ _ (c .before .if1 .left)) (omega (arith, c .if2 .taken)), omega arith)
-
-returns-3 : tie.Need-returns-3
-returns-3 c = (rw (le-ltb _ _ (c .before .if1 .left)) (omega (arith, c .if2 .left)), omega (arith, c .if2 .left))
-
 pub target-1-spec : {M : Type 1} → statement M
-target-1-spec = tie.close (tie.spec returns (λ c. search needs) mul-sum add-sum returns-2 returns-3)
+target-1-spec =
+    tie.close
+    (tie.spec
+    (λ c. (rw (lt-ltb _ _ (c .if1 .taken)), c .before .fits .minimum .fits))
+    (λ c. search needs)
+    (λ c. record { fits = omega (arith, product (c .before)) })
+    (λ c. record { fits = omega (arith, product (c .before), c .before .fits .minimum .fits) })
+    (λ c. (rw (le-ltb _ _ (c .before .if1 .left)) (omega (arith, c .if2 .taken)), omega arith))
+    (λ c. (rw (le-ltb _ _ (c .before .if1 .left)) (omega (arith, c .if2 .left)), omega (arith, c .if2 .left))))

@@ -4,11 +4,8 @@ use Rattle.moves.specs.Moves.{moveOf}
 use Rattle.moves.proofs.Grounds.move_of.Statement.{statement}
 use Rattle.moves.proofs.Grounds.move_of.Tie as tie
 
-returns : tie.Need-returns
-unfolding moveOf
-returns c = cc
-
 pub move-of-spec : {M : Type 1} → statement M
+unfolding moveOf
 move-of-spec =
     tie.close
     (tie.spec
@@ -17,4 +14,4 @@ move-of-spec =
     (λ c κs. search needs)
     (λ c κs. search needs)
     (λ c κs. search needs)
-    returns)
+    (λ c. cc))
