@@ -26,11 +26,11 @@ use Rattle.motor.specs.declared.Watched.{Watched}
 use Rattle.moves.specs.declared.Move.{Move}
 use Rattle.moves.specs.declared.Move.the-variants.{Stay, Enter, Measure, Clear, Retry}
 use Rattle.verdicts.specs.declared.Verdict.{Verdict}
-use Rattle.report.specs.Refusals.{lineLength, lineVerdict as told, accepts}
-use Rattle.report.specs.Line.{line, lentAfter as written}
+use Rattle.report.specs.Refusals.{lineLength, lineVerdict, accepts}
+use Rattle.report.specs.Line.{line, lentAfter}
 use Rattle.report.proofs.Fields.{length-line}
 use Rattle.records.specs.Front.{Front, end, unknown, short, whole, front}
-use Rattle.records.specs.Run.{Outcome, rest, refused, follow, runs, ranOf, outputAfter as ranWritten}
+use Rattle.records.specs.Run.{Outcome, rest, refused, follow, runs, ranOf, outputAfter}
 use Rattle.theorems_reached.proofs.Verdicts.{settles, settled}
 
 -- the table of refusals of a call
@@ -60,22 +60,22 @@ refused-unchanged d (cycles fields) given = refusal (verdict (cycleRows d fields
 refused-unchanged d (ticks fields) given = refusal (verdict (tickRows d fields)) _ d given
 
 -- a line call that tells another number than 0 leaves each lent byte
-pub refused-line : (a : Answer) (lent : List ℕ) → (told a (length lent) .number ≡ 0 → ⊥) → written a lent ≡ lent
-refused-line a lent given = rw (ne-eqb (told a (length lent) .number) 0 given)
+pub refused-line : (a : Answer) (lent : List ℕ) → (lineVerdict a (length lent) .number ≡ 0 → ⊥) → lentAfter a lent ≡ lent
+refused-line a lent given = rw (ne-eqb (lineVerdict a (length lent) .number) 0 given)
 
--- and whatever it tells, each byte behind the line's 45
+-- and whatever it tells, each byte behind the line's own
 behind :
     (a : Answer) (lent : List ℕ) (taken : Bool)
     → accepts a (length lent) ≡ taken
-    → drop lineLength (written a lent) ≡ drop lineLength lent
+    → drop lineLength (lentAfter a lent) ≡ drop lineLength lent
 behind a lent true e = rw e (drop-at (line a) (drop lineLength lent) lineLength (length-line a))
 behind a lent false e = rw e
 
-pub behind-the-line : (a : Answer) (lent : List ℕ) → drop lineLength (written a lent) ≡ drop lineLength lent
+pub behind-the-line : (a : Answer) (lent : List ℕ) → drop lineLength (lentAfter a lent) ≡ drop lineLength lent
 behind-the-line a lent = behind a lent (accepts a (length lent)) refl
 
 -- a run is not refused as a whole: whatever it comes to, it leaves each byte behind those that it says it wrote
-pub behind-the-lines : (o : Outcome) (lent : List ℕ) → drop (ranOf o .written) (ranWritten o lent) ≡ drop (ranOf o .written) lent
+pub behind-the-lines : (o : Outcome) (lent : List ℕ) → drop (ranOf o .written) (outputAfter o lent) ≡ drop (ranOf o .written) lent
 behind-the-lines o lent = drop-at (o .lines) (drop (length (o .lines)) lent) (length (o .lines)) refl
 
 -- and where its input begins with no whole record, it takes nothing and leaves the state: number 6 or, where more may come, no line
