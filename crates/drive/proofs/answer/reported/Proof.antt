@@ -20,9 +20,8 @@ div-limited c = (lit< tt, rw (toZ-ofZ (c .fits .reference)) (quotient-fits (c .a
 returns : tie.Need-returns
 returns c =
     let fits = c .before .fits .reference in
-    rw (
+    cc (
       toZ-ofZ {w = w16} {z = c .limited .result} (search needs),
-      c .limited .ensures,
       toZ-ofZ fits,
       toZ-ofZ (quotient-fits (c .before .args .reference) fits),
     )

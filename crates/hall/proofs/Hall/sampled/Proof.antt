@@ -13,29 +13,21 @@ returns-2 : tie.Need-returns-2
 unfolding sampled
 returns-2 c =
     let start = c .before .before .before .before .before in
-    rw (
-      ← c .before .before .before .before .judged .ensures,
-      c .before .before .enum-told2 .given .1,
-      c .keeps .ensures,
+    rw (← c .before .before .before .before .judged .ensures, c .before .before .enum-told2 .given .1)
+    (cc (
       toZ-ofZ {w = w16} {z = c .before .middle .result} (search needs),
-      c .before .middle .ensures,
       toZ-ofZ {w = w16} {z = start .args .offset} (start .fits .offset),
-    )
+    ))
 
 returns-4 : tie.Need-returns-4
 unfolding sampled
 returns-4 c =
     let start = c .before .before .before .before .before .before .before in
-    rw (
-      ← c .before .before .before .before .before .before .judged .ensures,
-      c .before .before .before .before .enum-told4 .given .1,
-      c .keeps2 .ensures,
-      c .before .wrapping-add-u32 .ensures,
+    rw (← c .before .before .before .before .before .before .judged .ensures, c .before .before .before .before .enum-told4 .given .1)
+    (cc (
       toZ-ofZ {w = w16} {z = c .before .before .boundary .result} (search needs),
-      c .before .before .boundary .ensures,
-      c .before .before .before .number .ensures,
       toZ-ofZ {w = w16} {z = start .args .offset} (start .fits .offset),
-    )
+    ))
 
 -- what subtracting 1 with wrapping gives, as a sum
 stepped-back : (r p : ℕ) → r < 2 ^ 32 → (r + 1) % 2 ^ 32 ≡ p → r ≡ minusOne p
@@ -46,15 +38,12 @@ unfolding sampled
 returns-5 c =
     let start = c .before .before .before .before .before .before in
     let back = c .before .wrapping-sub-u32 in
-    rw (
-      ← c .before .before .before .before .before .judged .ensures,
-      c .before .before .before .enum-told5 .given .1,
-      c .keeps3 .ensures,
+    rw (← c .before .before .before .before .before .judged .ensures, c .before .before .before .enum-told5 .given .1)
+    (cc (
       stepped-back (back .result) (start .args .self .position) (search needs) (back .ensures),
       toZ-ofZ {w = w16} {z = c .before .before .boundary2 .result} (search needs),
-      c .before .before .boundary2 .ensures,
       toZ-ofZ {w = w16} {z = start .args .offset} (start .fits .offset),
-    )
+    ))
 
 pub sampled-spec : {M : Type 1} → statement M
 unfolding sampled

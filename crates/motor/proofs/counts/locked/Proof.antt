@@ -8,10 +8,8 @@ use Rattle.motor.proofs.counts.locked.Tie as tie
 returns : tie.Need-returns
 returns c =
     let tick = c .before .before .before .before .args .tick in
-    rw (
-      c .absolute2 .ensures,
+    cc (
       toZ-ofZ {w = w16} {z = tick .speed} (search needs),
-      c .before .before .absolute .ensures,
       toZ-ofZ {w = w16} {z = tick .«trq_ref»} (search needs),
     )
 

@@ -16,9 +16,8 @@ times-2048-requires c κs =
 returns : tie.Need-returns
 returns c =
     let fits = c .before .fits .speed in
-    rw (
+    cc (
       toZ-ofZ {w = w32} {z = c .times-2048 .result} (search needs),
-      c .times-2048 .ensures,
       toZ-ofZ fits,
       toZ-ofZ (sfits-widen {w′ = w32} tt fits),
     )

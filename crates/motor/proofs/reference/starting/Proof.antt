@@ -7,9 +7,8 @@ use Rattle.motor.proofs.reference.starting.Tie as tie
 
 returns : tie.Need-returns
 returns c =
-    rw (
+    cc (
       toZ-ofZ {w = w32} {z = c .scaled .result} (search needs),
-      c .scaled .ensures,
       toZ-ofZ {w = w16} {z = c .before .before .args .tick .speed} (search needs),
     )
 

@@ -7,21 +7,13 @@ use Rattle.moves.proofs.Grounds.own_move.Tie as tie
 
 returns-7 : tie.Need-returns-7
 returns-7 c =
-    rw (
-      c .before .enum-told7 .given .1,
-      c .from-catch-spin .ensures,
-      c .before .before .before .absolute .ensures,
-      toZ-ofZ {w = w16} {z = c .before .before .before .before .before .before .args .self .speed} (search needs),
-    )
+    rw (c .before .enum-told7 .given .1)
+    (cc (toZ-ofZ {w = w16} {z = c .before .before .before .before .before .before .args .self .speed} (search needs)))
 
 returns-9 : tie.Need-returns-9
 returns-9 c =
-    rw (
-      c .before .enum-told9 .given .1,
-      c .from-open-loop .ensures,
-      c .before .before .before .absolute .ensures,
-      toZ-ofZ {w = w16} {z = c .before .before .before .before .before .before .args .self .speed} (search needs),
-    )
+    rw (c .before .enum-told9 .given .1)
+    (cc (toZ-ofZ {w = w16} {z = c .before .before .before .before .before .before .args .self .speed} (search needs)))
 
 pub own-move-spec : {M : Type 1} → statement M
 own-move-spec =
