@@ -1,4 +1,4 @@
-// A choice by a test: the code's form of the definitions' `pick`, so that the two read alike.
+// A choice by a test: the code's form of the definitions' `cond`, so that the two read alike.
 ghost use mathlib.Core.Bool.{cond};
 ghost use mathlib.Core.Path.{_≡_};
 

@@ -23,12 +23,6 @@ fn times_2048(number: i32) -> i32
     number * 2048
 }
 
-fn scaled(speed: i16) -> i32
-    ensures { λ r. ⌜ r ≡ times2048 speed ⌝ }
-{
-    times_2048(speed as i32)
-}
-
 fn target_0(minimum: u16, target: i16) -> i32
     ensures value { λ r. ⌜ r ≡ target0 minimum target ⌝ }
     ensures small { λ r. ⌜ mag r < 65536 ⌝ }
@@ -108,7 +102,7 @@ fn starting(tick: Tick) -> Run
         slots,
         rotor_lock_ticks: 0,
         hall_still_ticks: 0,
-        reference: scaled(tick.speed),
+        reference: times_2048(tick.speed as i32),
     }
 }
 
