@@ -19,12 +19,15 @@ last P zero small p0 p1 = p0
 last P (suc zero) small p0 p1 = p1
 last P (suc (suc n)) small p0 p1 = absurd (not-suc-le-zero (le-of-suc-le-suc (le-of-suc-le-suc small)))
 
+two : (P : ℕ → ℕ → Type 0) (m n : ℕ) → m < 2 → n < 2 → (P 0 0 × P 0 1) × (P 1 0 × P 1 1) → P m n
+two P m n small small′ p =
+    last (λ m. P m n) m small (last (P 0) n small′ (p .0 .0) (p .0 .1)) (last (P 1) n small′ (p .1 .0) (p .1 .1))
+
 pub bit-or : (k f g : ℕ) → bit k (f or g) ≡ (bit k f || bit k g)
 bit-or k f g =
     rw (or-shr f g k, or-mod (f / 2 ^ k) (g / 2 ^ k) 1)
-    (last (λ n. eqb (bitOr n (g / 2 ^ k % 2)) 1 ≡ (eqb n 1 || eqb (g / 2 ^ k % 2) 1)) (f / 2 ^ k % 2) (omega arith)
-    (last (λ n. eqb (bitOr 0 n) 1 ≡ eqb n 1) (g / 2 ^ k % 2) (omega arith) refl refl)
-    (last (λ n. eqb (bitOr 1 n) 1 ≡ true) (g / 2 ^ k % 2) (omega arith) refl refl))
+    (two (λ m n. eqb (bitOr m n) 1 ≡ (eqb m 1 || eqb n 1)) (f / 2 ^ k % 2) (g / 2 ^ k % 2) (omega arith) (omega arith)
+    ((refl, refl), (refl, refl)))
 
 -- so a bit of either is one of both
 pub old-bit : (k f g : ℕ) → T (bit k f) → T (bit k (f or g))
@@ -36,9 +39,8 @@ new-bit k f g t = subst T (sym (bit-or k f g)) (or-right (bit k f) (bit k g) t)
 pub bit-and : (k f g : ℕ) → bit k (bitAnd f g) ≡ (bit k f && bit k g)
 bit-and k f g =
     rw (and-shr f g k, and-mod (f / 2 ^ k) (g / 2 ^ k) 1)
-    (last (λ n. eqb (bitAnd n (g / 2 ^ k % 2)) 1 ≡ (eqb n 1 && eqb (g / 2 ^ k % 2) 1)) (f / 2 ^ k % 2) (omega arith)
-    (last (λ n. eqb (bitAnd 0 n) 1 ≡ false) (g / 2 ^ k % 2) (omega arith) refl refl)
-    (last (λ n. eqb (bitAnd 1 n) 1 ≡ eqb n 1) (g / 2 ^ k % 2) (omega arith) refl refl))
+    (two (λ m n. eqb (bitAnd m n) 1 ≡ (eqb m 1 && eqb n 1)) (f / 2 ^ k % 2) (g / 2 ^ k % 2) (omega arith) (omega arith)
+    ((refl, refl), (refl, refl)))
 
 pub bit-flag : (k : ℕ) (set : Bool) → T set → T (bit k (flag k set))
 bit-flag k true t = rw (div-self (pow-pos k)) tt
