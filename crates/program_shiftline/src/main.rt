@@ -26,7 +26,8 @@ struct Held {
 fn move_to_front(input: &mut [u8], from: usize, to: usize) -> usize
     requires { ⌜ (from ≤ to) × (to ≤ length (now input)) ⌝ }
     ensures result { λ r. ⌜ r ≡ to - from ⌝ }
-    ensures lent { λ r. ⌜ now (input .exit) ≡ take (to - from) (drop from (now (input .entry))) ++ drop (to - from) (now (input .entry)) ⌝ }
+    ensures lent { λ r. ⌜ now (input .exit)
+        ≡ take (to - from) (drop from (now (input .entry))) ++ drop (to - from) (now (input .entry)) ⌝ }
 {
     let count = to - from;
     let mut i: usize = 0;

@@ -24,7 +24,8 @@ unfolding front
 empty bytes none = rw (eq-eqb _ _ none)
 
 -- without bytes a run rests
-rests : (fuel : ℕ) (closed : Bool) (room : ℕ) (bytes : List ℕ) (d : Drive) → length bytes ≤ 0 → runs (suc fuel) closed room bytes d ≡ rest d
+rests : (fuel : ℕ) (closed : Bool) (room : ℕ) (bytes : List ℕ) (d : Drive) → length bytes ≤ 0
+    → runs (suc fuel) closed room bytes d ≡ rest d
 rests fuel closed room bytes d none =
     decide (ltb room lineLength) (λ tight. at-tight fuel closed room bytes d (ltb→lt room lineLength tight))
     (λ wide. by-front fuel closed room bytes d (nltb→le room lineLength wide) (empty bytes (omega arith)))

@@ -23,7 +23,8 @@ module _ (fuel : ℕ) (closed : Bool) (room : ℕ) (bytes : List ℕ) (d : Drive
   unfolding runs
   by-front wide is = rw (le-ltb room lineLength wide, is)
 
-pub one-whole : (closed : Bool) (room : ℕ) (bytes : List ℕ) (d : Drive) → lineLength ≤ room → (r : Call) → front bytes ≡ whole r
+pub one-whole : (closed : Bool) (room : ℕ) (bytes : List ℕ) (d : Drive)
+    → lineLength ≤ room → (r : Call) → front bytes ≡ whole r
     → runs 1 closed room bytes d ≡ lined (reply d r) (sizeOf r) false
 unfolding runs
 one-whole closed room bytes d wide r is =

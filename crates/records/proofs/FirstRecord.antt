@@ -38,7 +38,8 @@ module _ (closed : Bool) (room : ℕ) (bytes : List ℕ) (d : Drive) where
   spare = sym (any-fuel (suc (length bytes)) closed room bytes d (omega arith))
 
   -- it takes nothing
-  still : (o : Outcome) → ((fuel : ℕ) → runs (suc fuel) closed room bytes d ≡ o) → o .taken ≡ 0 → length (o .lines) ≤ room → FirstRecord
+  still : (o : Outcome) → ((fuel : ℕ) → runs (suc fuel) closed room bytes d ≡ o) → o .taken ≡ 0
+      → length (o .lines) ≤ room → FirstRecord
   still o is none fits =
       record {
         fits = rw (is 0) fits;

@@ -77,9 +77,10 @@ module _
     next-output : {left : List ℕ} → left ≡ outputAfter next (drop (ran .written) lent)
         → back (ran .written) output left ≡ (g .lines ++ next .lines) ++ drop (ran .written + length (next .lines)) lent
     next-output wrote =
+        let rest = drop (ran .written) output in
         rw (
           wrote,
-          drop-of-length-le (drop (ran .written) output) {i = length output - ran .written} (omega (arith, length-drop (ran .written) output)),
+          drop-of-length-le rest {i = length output - ran .written} (omega (arith, length-drop (ran .written) output)),
           append-nil,
           drop-drop (length (next .lines)) (ran .written) lent,
           g .out,
@@ -99,7 +100,8 @@ module _
         → after-it ≡ (g .lines ++ next .lines) ++ drop (ran .written + length (next .lines)) lent
         → Ongoing input closed lent first after-it (after ran (ranOf next))
     goes-on some out =
-        let less : length lent - ran .written - length (next .lines) ≡ length lent - (ran .written + length (next .lines)) = omega arith in
+        let n = length (next .lines) in
+        let less : length lent - ran .written - n ≡ length lent - (ran .written + n) = omega arith in
         record {
           lines = g .lines ++ next .lines;
           within = omega (arith, its-first .within, length-drop (ran .taken) input, g .within);
@@ -121,9 +123,17 @@ module _
       pub answer : result .taken ≡ 0 → after ran result ≡ ranOf (everything input closed lent first)
       pub leaves : result .taken ≡ 0 → back (ran .written) output left ≡ outputAfter (everything input closed lent first) lent
 
-    met : {result : Ran} {left : List ℕ} → result ≡ ranOf next → left ≡ outputAfter next (drop (ran .written) lent) → Stepped result left
-    met {result} {left} said wrote =
-        let out = next-output wrote in
+    abbrev next-in : List ℕ → Outcome
+    next-in lent-part = runs 1 closed (length lent-part) (drop (ran .taken) input) (ran .drive)
+
+    pub stepped : {result : Ran} {left : List ℕ}
+        → result ≡ ranOf (next-in (part (ran .written) output))
+        → left ≡ outputAfter (next-in (part (ran .written) output)) (part (ran .written) output)
+        → Stepped result left
+    stepped {result} {left} result-is left-is =
+        let sized = length-drop (ran .written) lent in
+        let said : result ≡ ranOf next = result-is ∙ rw (part-is, sized) in
+        let out = next-output {left = left} (left-is ∙ rw (part-is, sized)) in
         record {
           filled-within = rw said (omega (arith, its-first .fits, g .room));
           taken-within = rw said (omega (arith, its-first .within, length-drop (ran .taken) input, g .within));
@@ -132,11 +142,3 @@ module _
           answer = λ none. rw (said, ends (rw said at none), counted);
           leaves = λ none. out ∙ rw (ends (rw said at none), counted);
         }
-
-    -- the same, in terms of the part that was lent
-    pub stepped : {result : Ran} {left : List ℕ}
-        → result ≡ ranOf (runs 1 closed (length (part (ran .written) output)) (drop (ran .taken) input) (ran .drive))
-        → left
-        ≡ outputAfter (runs 1 closed (length (part (ran .written) output)) (drop (ran .taken) input) (ran .drive)) (part (ran .written) output)
-        → Stepped result left
-    stepped said wrote = met (said ∙ rw (part-is, length-drop (ran .written) lent)) (wrote ∙ rw (part-is, length-drop (ran .written) lent))

@@ -28,7 +28,8 @@ pub data Grown (a : List ℕ) : Front → Front → Type 0 where
   a-part : {g : Front} → length a ≤ mostHeld → Grown a short g
   a-record : (r : Call) → ReadOff a r → sizeOf r ≤ length a → Grown a (whole r) (whole r)
 
-both : {a : List ℕ} (test : Bool) {f g f′ g′ : Front} → Grown a f f′ → Grown a g g′ → Grown a (cond test f g) (cond test f′ g′)
+both : {a : List ℕ} (test : Bool) {f g f′ g′ : Front}
+    → Grown a f f′ → Grown a g g′ → Grown a (cond test f g) (cond test f′ g′)
 both true p q = p
 both false p q = q
 
@@ -69,7 +70,8 @@ module _ (a b : List ℕ) where
       let n = number-in tickSize all in
       rw (b 1 tt, b 2 tt, b 3 tt, n 4 tt, n 6 tt, n 8 tt, n 10 tt, n 12 tt, n 14 tt, n 16 tt, n 18 tt)
 
-  held-grown : (r s : Call) → ReadOff a r → (sizeOf r ≤ length a → s ≡ r) → Grown a (held (length a) r) (held (length (a ++ b)) s)
+  held-grown : (r s : Call) → ReadOff a r → (sizeOf r ≤ length a → s ≡ r)
+      → Grown a (held (length a) r) (held (length (a ++ b)) s)
   held-grown r s off same = go (ltb (length a) (sizeOf r)) refl
     where
       go : (few : Bool) → ltb (length a) (sizeOf r) ≡ few → Grown a (cond few short (whole r)) (held (length (a ++ b)) s)

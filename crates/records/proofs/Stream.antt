@@ -38,7 +38,8 @@ answered : (fuel : ℕ) (closed : Bool) (bytes : List ℕ) (d : Drive) (room : �
     → runs fuel closed room bytes d ≡ answers closed bytes d
 answered fuel closed bytes d room fueled roomy =
     same-run (λ room other bytes. Roomy room bytes × Roomy other bytes)
-    (λ room other bytes both. rw (le-ltb room lineLength (wide room bytes (both .0)), le-ltb other lineLength (wide other bytes (both .1))))
+    (λ room other bytes both.
+    rw (le-ltb room lineLength (wide room bytes (both .0)), le-ltb other lineLength (wide other bytes (both .1))))
     (λ room other bytes r both all. (roomy-behind room bytes r (both .0) all, roomy-behind other bytes r (both .1) all))
     fuel (length bytes) closed d (roomy, roomy-for bytes) fueled (omega arith)
 
@@ -106,11 +107,13 @@ few-left = by-records FewLeft (λ a d again. first a d again (front a) (grown a 
         (again r all (sym (ap (λ (o : Outcome). o .ended) (answers-at false a d is)) ∙ goes))
 
 -- the program's lines have room enough
-roomy-run : (bytes : List ℕ) (d : Drive) (closed : Bool) → length bytes ≤ inputSize → run closed outputSize bytes d ≡ answers closed bytes d
+roomy-run : (bytes : List ℕ) (d : Drive) (closed : Bool) → length bytes ≤ inputSize
+    → run closed outputSize bytes d ≡ answers closed bytes d
 roomy-run bytes d closed fits = answered (length bytes) closed bytes d outputSize (omega arith) (omega arith)
 
 -- while the run goes on, no more is held than a part of a record, so that there is always room to read more
-pub left-few : (bytes : List ℕ) (d : Drive) → length bytes ≤ inputSize → openRun bytes d .ended ≡ false → length (left bytes d) ≤ mostHeld
+pub left-few : (bytes : List ℕ) (d : Drive) → length bytes ≤ inputSize → openRun bytes d .ended ≡ false
+    → length (left bytes d) ≤ mostHeld
 left-few bytes d fits =
     subst (λ (o : Outcome). o .ended ≡ false → length (drop (o .taken) bytes) ≤ mostHeld) (sym (roomy-run bytes d false fits))
     (few-left bytes d)
@@ -124,16 +127,18 @@ pub always-fit :
 unfolding Fit Each
 always-fit [] held d small few = omega arith
 always-fit (piece ∷ later) held d small few =
-    let fits : length (held ++ piece) ≤ inputSize = omega (arith, small .0, length-append held piece) in (
+    let bytes : List ℕ = held ++ piece in
+    let fits : length bytes ≤ inputSize = omega (arith, small .0, length-append held piece) in (
       fits,
-      λ goes. always-fit later (left (held ++ piece) d) (openRun (held ++ piece) d .drive) (small .1) (left-few (held ++ piece) d fits goes),
+      λ goes. always-fit later (left bytes d) (openRun bytes d .drive) (small .1) (left-few bytes d fits goes),
     )
 
 -- a piece, and the pieces after it
 module _
     (later : List (List ℕ)) (bytes : List ℕ) (d : Drive)
     (again : openRun bytes d .ended ≡ false
-    → stream later (left bytes d) (openRun bytes d .drive) ≡ answers true (left bytes d ++ flatten later) (openRun bytes d .drive) .lines)
+    → stream later (left bytes d) (openRun bytes d .drive)
+    ≡ answers true (left bytes d ++ flatten later) (openRun bytes d .drive) .lines)
   where
     then : (ended : Bool) → openRun bytes d .ended ≡ ended
         → cond (openRun bytes d .ended) (openRun bytes d .lines)

@@ -82,7 +82,8 @@ pub fn read(input: &[u8], at: usize) -> Found
 // or the output has no room for a line. `closed` says that no more input will come.
 pub fn run(drive: Drive, input: &[u8], closed: bool, output: &mut [u8]) -> Ran
     ensures result { λ r. ⌜ r ≡ ranOf (run closed (length (now (output .entry))) (now (input .entry)) drive) ⌝ }
-    ensures lent { λ _. ⌜ now (output .exit) ≡ outputAfter (run closed (length (now (output .entry))) (now (input .entry)) drive) (now (output .entry)) ⌝ }
+    ensures lent { λ _. ⌜ now (output .exit)
+        ≡ outputAfter (run closed (length (now (output .entry))) (now (input .entry)) drive) (now (output .entry)) ⌝ }
     ensures within { λ r. ⌜ (r .taken ≤ length (now (input .entry))) × (r .written ≤ length (now (output .entry))) ⌝ }
 {
     let mut ran = resting(drive);

@@ -10,24 +10,17 @@ ghost use lib.ListN.{length, drop};
 ghost use Rattle.report.specs.Refusals.{lineLength};
 ghost use Rattle.report.specs.Line.{line};
 
-// The fields in the paper's order, each at its place in the line.
+// The fields in the paper's order, each where the one before it ends.
 pub(crate) fn fields(answer: Answer, lent: &mut [u8])
     requires { ⌜ lineLength ≤ length (now lent) ⌝ }
     requires { ⌜ answer .state ≤ 9 ⌝ }
     ensures { λ _. ⌜ now (lent .exit) ≡ line answer ++ drop lineLength (now (lent .entry)) ⌝ }
 {
-    put_digits(lent, 0, answer.number as u32, 16, 1);
-    lent[1] = b' ';
-    put_name(lent, 2, answer.state);
-    lent[14] = b' ';
-    put_digits(lent, 15, answer.gate as u32, 10, 1);
-    lent[16] = b' ';
-    put_digits(lent, 17, answer.live as u32, 16, 4);
-    lent[21] = b' ';
-    put_signed(lent, 22, answer.reference);
-    lent[28] = b' ';
-    put_digits(lent, 29, answer.position, 16, 8);
-    lent[37] = b' ';
-    put_signed(lent, 38, answer.angle);
-    lent[44] = b'\n';
+    let at = put_digits(lent, 0, answer.number as u32, 16, 1, b' ');
+    let at = put_name(lent, at, answer.state, b' ');
+    let at = put_digits(lent, at, answer.gate as u32, 10, 1, b' ');
+    let at = put_digits(lent, at, answer.live as u32, 16, 4, b' ');
+    let at = put_signed(lent, at, answer.reference, b' ');
+    let at = put_digits(lent, at, answer.position, 16, 8, b' ');
+    put_signed(lent, at, answer.angle, b'\n');
 }

@@ -13,16 +13,14 @@ use Rattle.records.specs.declared.Ran.{Ran}
 use Rattle.program_shiftline.proofs.answer.Statement.{statement}
 use Rattle.program_shiftline.proofs.answer.Tie as tie
 
-slice-aggregate-run : tie.Need-slice-aggregate-run
-slice-aggregate-run c = sym (length-take-le _ _ (c .before .before .before .pre))
-
 slice-aggregate-write-all : tie.Need-slice-aggregate-write-all
 slice-aggregate-write-all c =
     let run = c .before .before .before .before .run in
     sym (length-take-le _ _ (omega (arith, run .ensures .1 .1 .1, run .kept .1 .1 .1 .0)))
 
 -- what `move_to_front` leaves at the front is the rest of what the run was lent
-front : (taken filled : ℕ) (before after : List ℕ) (held : ℕ) → taken ≤ filled → filled ≤ length before → held ≡ filled - taken
+front : (taken filled : ℕ) (before after : List ℕ) (held : ℕ)
+    → taken ≤ filled → filled ≤ length before → held ≡ filled - taken
     → after ≡ take (filled - taken) (drop taken before) ++ drop (filled - taken) before
     → take held after ≡ take held (drop taken before)
 front taken filled before after held took within count out =
@@ -66,7 +64,7 @@ answer-spec =
     tie.close
     (tie.spec
     (λ c. search needs)
-    slice-aggregate-run
+    (λ c. sym (length-take-le _ _ (c .before .before .before .pre)))
     (λ c κs. search needs)
     (λ c. search needs)
     slice-aggregate-write-all

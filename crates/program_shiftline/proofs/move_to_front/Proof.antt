@@ -45,7 +45,8 @@ loop-again c =
 returns : tie.Need-returns Inv-loop μ-loop
 returns c =
     let inv = c .before .loop .inv in
-    let end : c .before .loop .i ≡ c .before .before .args .to - c .before .before .args .from = omega (arith, inv .0, c .loop-test .left) in
+    let args = c .before .before .args in
+    let end : c .before .loop .i ≡ args .to - args .from = omega (arith, inv .0, c .loop-test .left) in
     (refl, rw (← end) (inv .4))
 
 pub move-to-front-spec : {M : Type 1} → statement M

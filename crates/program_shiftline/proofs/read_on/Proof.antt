@@ -10,9 +10,6 @@ use Rattle.program_shiftline.specs.Rest.{failed, answered}
 use Rattle.program_shiftline.proofs.read_on.Statement.{statement}
 use Rattle.program_shiftline.proofs.read_on.Tie as tie
 
-returns : tie.Need-returns
-returns c = (search needs, failed refl refl refl)
-
 returns-2 : tie.Need-returns-2
 returns-2 c =
     let answer = c .before .before .before .before .answer in
@@ -32,7 +29,7 @@ read-on-spec =
     (λ c. search needs)
     (λ c κs. search needs)
     (λ c. search needs)
-    returns
+    (λ c. (search needs, failed refl refl refl))
     (λ c. search needs)
     (λ c. search needs)
     (λ c. search needs)

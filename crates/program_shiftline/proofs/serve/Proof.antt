@@ -15,12 +15,6 @@ Inv-loop input₀ output₀ reads₀ held₀ input output reads held =
 abbrev μ-loop : tie.MeasureT-loop
 μ-loop input₀ output₀ reads₀ held₀ input output reads held = reads
 
-loop-holds : tie.Need-loop-holds Inv-loop μ-loop
-loop-holds c = (refl, refl, omega arith)
-
-read-on-requires : tie.Need-read-on-requires Inv-loop μ-loop
-read-on-requires c κs = search needs
-
 loop-again : tie.Need-loop-again Inv-loop μ-loop
 loop-again c =
     let read-on = c .before .before .before .before .read-on in
@@ -37,8 +31,8 @@ serve-spec =
     Inv-loop
     μ-loop
     (λ c κs. search needs)
-    loop-holds
-    read-on-requires
+    (λ c. (refl, refl, omega arith))
+    (λ c κs. search needs)
     (λ c. search needs)
     (λ c. search needs)
     loop-again

@@ -31,14 +31,13 @@ some-left : (bytes : List ℕ) (at : ℕ) → at < length bytes
     → front (drop at bytes) ≡ begun (getD bytes at 0) (length bytes - at) (drop at bytes)
 some-left bytes at within = rw (from bytes at, ne-eqb (length bytes - at) 0 (λ none. omega (arith, none)))
 
-returns : tie.Need-returns
-returns c = rw (none-left _ _ (c .if1 .taken))
-
 returns-2 : tie.Need-returns-2
-returns-2 c = rw (some-left _ _ (c .before .before .before .if1 .left), eq-eqb _ _ (c .before .if2 .taken), lt-ltb _ loadSize (c .if3 .taken))
+returns-2 c =
+    rw (some-left _ _ (c .before .before .before .if1 .left), eq-eqb _ _ (c .before .if2 .taken), lt-ltb _ loadSize (c .if3 .taken))
 
 returns-3 : tie.Need-returns-3
-returns-3 c = rw (some-left _ _ (c .before .before .before .if1 .left), eq-eqb _ _ (c .before .if2 .taken), le-ltb _ loadSize (c .if3 .left))
+returns-3 c =
+    rw (some-left _ _ (c .before .before .before .if1 .left), eq-eqb _ _ (c .before .if2 .taken), le-ltb _ loadSize (c .if3 .left))
 
 returns-4 : tie.Need-returns-4
 returns-4 c =
@@ -102,7 +101,7 @@ pub read-spec : {M : Type 1} → statement M
 read-spec =
     tie.close
     (tie.spec
-    returns
+    (λ c. rw (none-left _ _ (c .if1 .taken)))
     (λ c. search needs)
     (λ c. search needs)
     returns-2

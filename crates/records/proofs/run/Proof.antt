@@ -1,8 +1,10 @@
 -- `run` keeps the whole answer in sight: the lines written so far, and then the run over what is left, are the run over everything.
 use mathlib.Core.Path.{_≡_, ap}
-use Prim.Native.Nat.{_-_, _≤_}
+use Prim.Native.Nat.{_+_, _-_, _≤_}
 use native.Mathlib.Omega.{arith}
 use lib.ListN.{length}
+use mir.Syntax.{w64}
+use mir.Val.{Fits}
 use borrow.Author.Needs.{needs}
 use Rattle.records.specs.declared.Ran.{Ran}
 use Rattle.records.proofs.LoopOfRun.{Ongoing, begun, length-output, Stepped, stepped}
@@ -15,15 +17,20 @@ Inv-loop input closed output₀ ran₀ output ran = Ongoing input closed output�
 abbrev μ-loop : tie.MeasureT-loop
 μ-loop input closed output₀ ran₀ output ran = length input - ran .taken
 
-loop-holds : tie.Need-loop-holds Inv-loop μ-loop
-loop-holds c = rw (c .resting .ensures) (begun _ _ _ _)
-
 room : (c : tie.After-drive Inv-loop μ-loop) → c .before .loop .ran .written ≤ length (c .before .loop .output)
 room c = omega (arith, length-output (c .before .loop .inv), c .before .loop .inv .room)
 
 after : (c : tie.After-step Inv-loop μ-loop)
     → Stepped (c .before .before .before .loop .inv) (c .step .result) (c .step .last .1 .1 .1 .1 .0)
 after c = stepped (c .before .before .before .loop .inv) (c .step .ensures .0) (c .step .ensures .1)
+
+-- what is taken and what is written are within the buffers, whose lengths a usize holds
+sums : (c : tie.After-step Inv-loop μ-loop)
+    → let ran = c .before .before .before .loop .ran in
+    Fits w64 (ran .taken + c .step .result .taken) × Fits w64 (ran .written + c .step .result .written)
+sums c =
+    let good = c .before .before .before .before .before .before .before .good in
+    (omega (arith, after c .taken-within, good), omega (arith, after c .filled-within, good))
 
 returns : tie.Need-returns Inv-loop μ-loop
 returns c =
@@ -40,13 +47,13 @@ run-spec =
     Inv-loop
     μ-loop
     (λ c κs. search needs)
-    loop-holds
+    (λ c. rw (c .resting .ensures) (begun _ _ _ _))
     (λ c. room c)
     (λ c. room c)
     (λ c. search needs)
     (λ c κs. search needs)
-    (λ c. omega (arith, after (c .before .before .before .before) .taken-within, c .before .before .before .before .before .before .before .before .before .before .before .good))
-    (λ c. omega (arith, after (c .before .before .before .before .before) .filled-within, c .before .before .before .before .before .before .before .before .before .before .before .before .good))
+    (λ c. sums (c .before .before .before .before) .0)
+    (λ c. sums (c .before .before .before .before .before) .1)
     (λ c. after (c .before .before .before .before .before .before .before) .length-kept)
     returns
     (λ c. omega (arith, after (c .before .before .before .before .before .before .before) .taken-within, c .if1 .left))

@@ -5,9 +5,6 @@ use borrow.Author.Needs.{needs}
 use Rattle.test_generated.proofs.print_lines.Statement.{statement}
 use Rattle.test_generated.proofs.print_lines.Tie as tie
 
-slice-aggregate-write-all : tie.Need-slice-aggregate-write-all
-slice-aggregate-write-all c = sym (length-take-le _ _ (search needs))
-
 pub print-lines-spec : {M : Type 1} → statement M
 print-lines-spec =
     tie.close
@@ -15,7 +12,7 @@ print-lines-spec =
     (λ c κs. search needs)
     (λ c κs. search needs)
     (λ c. search needs)
-    slice-aggregate-write-all
+    (λ c. sym (length-take-le _ _ (search needs)))
     (λ c κs. search needs)
     (λ c. search needs)
     (λ c. search needs))

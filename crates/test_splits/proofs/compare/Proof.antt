@@ -5,12 +5,6 @@ use borrow.Author.Needs.{needs}
 use Rattle.test_splits.proofs.compare.Statement.{statement}
 use Rattle.test_splits.proofs.compare.Tie as tie
 
-slice-aggregate-write-all : tie.Need-slice-aggregate-write-all
-slice-aggregate-write-all c = sym (length-take-le _ _ (search needs))
-
-slice-aggregate-print-differing : tie.Need-slice-aggregate-print-differing
-slice-aggregate-print-differing c = sym (length-take-le _ _ (search needs))
-
 pub compare-spec : {M : Type 1} → statement M
 compare-spec =
     tie.close
@@ -18,10 +12,10 @@ compare-spec =
     (λ c κs. search needs)
     (λ c κs. search needs)
     (λ c. search needs)
-    slice-aggregate-write-all
+    (λ c. sym (length-take-le _ _ (search needs)))
     (λ c κs. search needs)
     (λ c. search needs)
-    slice-aggregate-print-differing
+    (λ c. sym (length-take-le _ _ (search needs)))
     (λ c κs. search needs)
     (λ c. search needs)
     (λ c. search needs)

@@ -5,16 +5,13 @@ use borrow.Author.Needs.{needs}
 use Rattle.test_splits.proofs.differs.Statement.{statement}
 use Rattle.test_splits.proofs.differs.Tie as tie
 
-slice-aggregate-same : tie.Need-slice-aggregate-same
-slice-aggregate-same c = sym (length-take-le _ _ (search needs))
-
 pub differs-spec : {M : Type 1} → statement M
 differs-spec =
     tie.close
     (tie.spec
     (λ c κs. search needs)
     (λ c. search needs)
-    slice-aggregate-same
+    (λ c. sym (length-take-le _ _ (search needs)))
     (λ c κs. search needs)
     (λ c. search needs)
     (λ c. search needs))

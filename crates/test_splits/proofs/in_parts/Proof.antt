@@ -8,27 +8,24 @@ use borrow.Author.Needs.{needs}
 use Rattle.test_splits.proofs.in_parts.Statement.{statement}
 use Rattle.test_splits.proofs.in_parts.Tie as tie
 
-slice-aggregate-run : tie.Need-slice-aggregate-run
-slice-aggregate-run c = sym (length-take-le _ _ (c .before .before .before .before .pre))
-
 sub-run : tie.Need-sub-run
 sub-run c =
     let ran = c .before .before .before .before in
     let start = ran .before .before .before .before .before .before in
     omega (arith, ran .run .ensures .1 .1 .0, length-take-le (start .args .split) (now (start .args .input)) (start .pre), start .pre)
 
-part-run-start : tie.Need-part-run-start
-part-run-start c = sub-run c
-
 returns-2 : tie.Need-returns-2
 returns-2 c =
     let second = c .before .before .before in
     let first = second .before .before .before .before .before .before .before in
-    omega (arith, first .run .ensures .1 .1 .1, first .run .kept .1 .1 .1 .0, second .run2 .ensures .1 .1 .1, length-drop (first .run .result .written) (first .run .last .1 .1 .1 .0))
+    let run = first .run in
+    omega
+    (arith, run .ensures .1 .1 .1, run .kept .1 .1 .1 .0, second .run2 .ensures .1 .1 .1, length-drop (run .result .written) (run .last .1 .1 .1 .0))
 
 add-result : tie.Need-add-result
 add-result c =
-    let start = c .before .before .before .before .before .before .before .before .before .before .before .before .before .before .before .before in
+    let ran = c .before .before .before .before .before .before .before .before .before .before in
+    let start = ran .before .before .before .before .before .before in
     omega (arith, returns-2 c, start .good .1 .1 .0 .0)
 
 pub in-parts-spec : {M : Type 1} → statement M
@@ -36,12 +33,12 @@ in-parts-spec =
     tie.close
     (tie.spec
     (λ c κs. search needs)
-    slice-aggregate-run
+    (λ c. sym (length-take-le _ _ (c .before .before .before .before .pre)))
     (λ c κs. search needs)
     (λ c. search needs)
     (λ c. search needs)
     sub-run
-    part-run-start
+    (λ c. sub-run c)
     (λ c. search needs)
     (λ c. search needs)
     (λ c. search needs)

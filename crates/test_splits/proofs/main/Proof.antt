@@ -5,12 +5,6 @@ use borrow.Author.Needs.{needs}
 use Rattle.test_splits.proofs.main.Statement.{statement}
 use Rattle.test_splits.proofs.main.Tie as tie
 
-slice-aggregate-compare-4 : tie.Need-slice-aggregate-compare-4
-slice-aggregate-compare-4 c = sym (length-take-le _ _ (search needs))
-
-slice-aggregate-compare-7 : tie.Need-slice-aggregate-compare-7
-slice-aggregate-compare-7 c = sym (length-take-le _ _ (search needs))
-
 pub main-spec : {M : Type 1} → statement M
 main-spec =
     tie.close
@@ -24,13 +18,13 @@ main-spec =
     (λ c κs. search needs)
     (λ c. search needs)
     (λ c. search needs)
-    slice-aggregate-compare-4
+    (λ c. sym (length-take-le _ _ (search needs)))
     (λ c. search needs)
     (λ c. search needs)
     (λ c κs. search needs)
     (λ c. search needs)
     (λ c. search needs)
-    slice-aggregate-compare-7
+    (λ c. sym (length-take-le _ _ (search needs)))
     (λ c. search needs)
     (λ c. search needs)
     (λ c κs. search needs)

@@ -9,7 +9,8 @@ use Rattle.test_splits.proofs.print_differing.Statement.{statement}
 use Rattle.test_splits.proofs.print_differing.Tie as tie
 
 abbrev Inv-loop : tie.InvT-loop
-Inv-loop input lines output₀ differing₀ split₀ t6 t7 output differing split = (split ≤ suc (length input)) × (differing ≤ split) × (length output ≡ length output₀)
+Inv-loop input lines output₀ differing₀ split₀ t6 t7 output differing split =
+    (split ≤ suc (length input)) × (differing ≤ split) × (length output ≡ length output₀)
 
 abbrev μ-loop : tie.MeasureT-loop
 μ-loop input lines output₀ differing₀ split₀ t6 t7 output differing split = suc (length input) - split

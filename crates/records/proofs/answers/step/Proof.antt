@@ -26,11 +26,9 @@ use Rattle.records.proofs.answers.step.Tie as tie
 abbrev Met : Outcome → List ℕ → Ran → List ℕ → Type 0
 Met o lent result left = (result ≡ ranOf o) × (left ≡ outputAfter o lent)
 
-met : (lent : List ℕ) {said o : Outcome} {result : Ran} {left : List ℕ} → said ≡ o → Met o lent result left → Met said lent result left
+met : (lent : List ℕ) {said o : Outcome} {result : Ran} {left : List ℕ} → said ≡ o
+    → Met o lent result left → Met said lent result left
 met lent is done = rw is done
-
-returns : tie.Need-returns
-returns c = met _ (at-tight 0 _ _ _ _ (c .before .if1 .taken)) (c .resting .ensures, refl)
 
 module _ (c : tie.After-read) where
   abbrev start : tie.Start
@@ -56,13 +54,13 @@ module _ (c : tie.After-read) where
 loaded : (c : tie.After-enum-told4) → Meaning (bytes (c .before .before)) Load
 loaded c = means (c .before .before) Load (c .enum-told4 .given .1)
 
-fits : (c : tie.After-enum-told4) → start (c .before .before) .args .at + loadSize ≤ length (now (start (c .before .before) .args .input))
-fits c = omega (arith, loaded c .1, length-drop (start (c .before .before) .args .at) (now (start (c .before .before) .args .input)))
+fits : (c : tie.After-enum-told4) → let args = start (c .before .before) .args in args .at + loadSize ≤ length (now (args .input))
+fits c = let args = start (c .before .before) .args in omega (arith, loaded c .1, length-drop (args .at) (now (args .input)))
 
 -- what the load is answered
 same-load : (c : tie.After-load-settings)
-    → c .load-settings .result
-    ≡ reply (start (c .before .before .before .before .before) .args .drive) (loads (settingsOf (bytes (c .before .before .before .before .before))))
+    → let read = c .before .before .before .before .before in
+    c .load-settings .result ≡ reply (start read .args .drive) (loads (settingsOf (bytes read)))
 same-load c = c .load-settings .ensures ∙ rw (c .before .settings-of .ensures, tail)
 
 returns-2 : tie.Need-returns-2
@@ -103,21 +101,23 @@ returns-7 c =
     let cycle = c .before .before .before .before in
     let fields = cycle .before .before in
     let read = fields .before .before in
-    replied read (cycles _) (means read (Cycle _) (fields .fields .given .1)) (cycle .cycle .ensures) (c .before .before .answering2 .ensures)
+    replied read (cycles _) (means read (Cycle _) (fields .fields .given .1)) (cycle .cycle .ensures)
+    (c .before .before .answering2 .ensures)
 
 returns-8 : tie.Need-returns-8
 returns-8 c =
     let tick = c .before .before .before .before in
     let fields = tick .before .before in
     let read = fields .before .before in
-    replied read (ticks _) (means read (Tick _) (fields .fields2 .given .1)) (tick .tick .ensures) (c .before .before .answering3 .ensures)
+    replied read (ticks _) (means read (Tick _) (fields .fields2 .given .1)) (tick .tick .ensures)
+    (c .before .before .answering3 .ensures)
 
 pub step-spec : {M : Type 1} → statement M
 step-spec =
     tie.close
     (tie.spec
     (λ c κs. search needs)
-    returns
+    (λ c. met _ (at-tight 0 _ _ _ _ (c .before .if1 .taken)) (c .resting .ensures, refl))
     (λ c κs. search needs)
     (λ c. search needs)
     (λ c κs. search needs)

@@ -6,7 +6,7 @@ use Rattle.records.proofs.decoded.cycle_of.Tie as tie
 
 returns : tie.Need-returns
 unfolding cycleOf
-returns c = rw (c .number2 .ensures, c .before .number .ensures)
+returns c = cc
 
 pub cycle-of-spec : {M : Type 1} → statement M
 cycle-of-spec =

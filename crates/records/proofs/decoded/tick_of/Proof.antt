@@ -9,18 +9,10 @@ use Rattle.records.proofs.decoded.tick_of.Tie as tie
 returns : tie.Need-returns
 unfolding tickOf
 returns c =
-    rw (
+    cc (
       toZ-ofZ {w = w16} {z = c .signed-number3 .result} (search needs),
       toZ-ofZ {w = w16} {z = c .before .signed-number2 .result} (search needs),
       toZ-ofZ {w = w16} {z = c .before .before .signed-number .result} (search needs),
-      c .signed-number3 .ensures,
-      c .before .signed-number2 .ensures,
-      c .before .before .signed-number .ensures,
-      c .before .before .before .number5 .ensures,
-      c .before .before .before .before .number4 .ensures,
-      c .before .before .before .before .before .number3 .ensures,
-      c .before .before .before .before .before .before .number2 .ensures,
-      c .before .before .before .before .before .before .before .number .ensures,
     )
 
 pub tick-of-spec : {M : Type 1} → statement M

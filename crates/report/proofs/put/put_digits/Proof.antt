@@ -13,17 +13,11 @@ use Rattle.report.proofs.put.put_digits.Statement.{statement}
 use Rattle.report.proofs.put.put_digits.Tie as tie
 
 abbrev Inv-loop : tie.InvT-loop
-Inv-loop lent at number base width scratch₀ rest₀ left₀ scratch rest left =
+Inv-loop lent at number base width end scratch₀ rest₀ left₀ scratch rest left =
     (left ≤ width) × (length scratch ≡ 8) × (sets scratch 0 (digits base left rest) ≡ sets scratch₀ 0 (digits base width number))
 
 abbrev μ-loop : tie.MeasureT-loop
-μ-loop lent at number base width scratch₀ rest₀ left₀ scratch rest left = left
-
-loop-holds : tie.Need-loop-holds Inv-loop μ-loop
-loop-holds c = (search needs, refl, refl)
-
-digit-requires : tie.Need-digit-requires Inv-loop μ-loop
-digit-requires c κs = omega (arith, mod-lt (c .before .loop .rest) (c .before .before .before .pre .0 .0))
+μ-loop lent at number base width end scratch₀ rest₀ left₀ scratch rest left = left
 
 loop-again : tie.Need-loop-again Inv-loop μ-loop
 loop-again c =
@@ -52,14 +46,11 @@ module _ (c : tie.After-loop Inv-loop μ-loop) where
       ap (take (start .args .width)) (rw none at (c .before .loop .inv .2))
       ∙ take-front (replicate 8 0) _ (start .args .width) (length-digits _ _ _) (start .pre .1 .0)
 
-slice-aggregate-put : tie.Need-slice-aggregate-put Inv-loop μ-loop
-slice-aggregate-put c = rw (all-made (c .before .before), length-digits)
-
-put-requires : tie.Need-put-requires Inv-loop μ-loop
-put-requires c κs = rw (all-made (c .before .before), length-digits) (search needs)
-
 returns : tie.Need-returns Inv-loop μ-loop
-returns c = rw (c .before .before .put .ensures, all-made (c .before .before .before .before .before))
+returns c =
+    let put = c .before .before .put .ensures in
+    let made = all-made (c .before .before .before .before .before) in
+    (put .0 ∙ rw (made, length-digits), put .1 ∙ rw made)
 
 pub put-digits-spec : {M : Type 1} → statement M
 put-digits-spec =
@@ -67,16 +58,16 @@ put-digits-spec =
     (tie.spec
     Inv-loop
     μ-loop
-    loop-holds
+    (λ c. (search needs, refl, refl))
     (λ c. search needs)
     (λ c. search needs)
-    digit-requires
+    (λ c κs. omega (arith, mod-lt (c .before .loop .rest) (c .before .before .before .pre .0 .0)))
     (λ c. search needs)
     (λ c. search needs)
     (λ c. search needs)
     loop-again
     (λ c. search needs)
-    slice-aggregate-put
-    put-requires
+    (λ c. rw (all-made (c .before .before), length-digits))
+    (λ c κs. rw (all-made (c .before .before), length-digits) (search needs))
     (λ c. search needs)
     returns)

@@ -9,23 +9,20 @@ use Rattle.report.specs.Text.{signed}
 use Rattle.report.proofs.put.put_signed.Statement.{statement}
 use Rattle.report.proofs.put.put_signed.Tie as tie
 
-put-digits-requires : tie.Need-put-digits-requires
-put-digits-requires c κs = simp length-set (omega arith)
-
-same-length : tie.Need-same-length
-same-length c = c .before .before .put-digits .kept .0 ∙ simp length-set
-
 returns : tie.Need-returns
 unfolding signed
 returns c =
     let sized = c .before .before .before in
     let start = sized .before .before .before .before in
-    rw (
-      c .before .before .put-digits .ensures,
-      sized .absolute .ensures,
-      sized .before .before .sign .ensures,
-      toZ-ofZ (start .fits .number),
-      add-one,
+    let put = c .before .before .put-digits .ensures in (
+      omega (arith, put .0),
+      put .1
+          ∙ rw (
+            sized .absolute .ensures,
+            sized .before .before .sign .ensures,
+            toZ-ofZ (start .fits .number),
+            add-one,
+          ),
     )
 
 pub put-signed-spec : {M : Type 1} → statement M
@@ -37,6 +34,6 @@ put-signed-spec =
     (λ c. search needs)
     (λ c κs. search needs)
     (λ c. search needs)
-    put-digits-requires
-    same-length
+    (λ c κs. simp length-set (omega arith))
+    (λ c. c .before .before .put-digits .kept .0 ∙ simp length-set)
     returns)

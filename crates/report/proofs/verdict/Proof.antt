@@ -1,0 +1,12 @@
+-- `verdict` puts each row before the later ones, from the last to the first: the first that holds is left.
+use borrow.Author.Needs.{needs}
+use Rattle.report.proofs.verdict.Statement.{statement}
+use Rattle.report.proofs.verdict.Tie as tie
+
+returns : tie.Need-returns
+returns c = cc
+
+pub verdict-spec : {M : Type 1} → statement M
+verdict-spec =
+    tie.close
+    (tie.spec (λ c κs. search needs) (λ c κs. search needs) (λ c κs. search needs) (λ c κs. search needs) returns)
