@@ -1,13 +1,13 @@
 -- `with_offset` adds the bits of the two modulo 2^16, and these are those of the sum, whatever the signs.
 use mathlib.Core.Bool.{Bool, true, false}
-use mathlib.Core.Path.{_≡_, refl, ap}
+use mathlib.Core.Path.{_≡_, refl}
 use Prim.Native.Nat.{ℕ, suc, _+_, _-_, _<_, _%_}
 use native.Mathlib.Omega.{arith}
 use lib.Dec.{ltb}
 use lib.IntN.{ℤ, pos, negsuc, subℕ, _+ℤ_}
 use lib.Signed.{mag}
 use mir.Syntax.{w16}
-use mir.Val.{ofZ, toZ}
+use mir.Val.{ofZ}
 use mir.Facts.{toZ-ofZ}
 use borrow.Author.Needs.{needs}
 use borrow.Author.Tests.{ltb-true, ltb-false}
@@ -31,16 +31,12 @@ returns : tie.Need-returns
 unfolding withOffset
 returns c =
     let start = c .before .before .before .before in
-    rw (
+    cc (
       toZ-ofZ {w = w16} {z = c .signed .result} (search needs),
-      c .signed .ensures,
-      c .before .wrapping-add-u16 .ensures,
-      c .before .before .before .bits .ensures,
-      c .before .before .bits2 .ensures,
       toZ-ofZ (start .fits .angle),
       toZ-ofZ (start .fits .offset),
+      added (start .args .angle) (start .args .offset) (start .fits .angle .sfits) (start .fits .offset .sfits),
     )
-    (ap (toZ w16) (added (start .args .angle) (start .args .offset) (start .fits .angle .sfits) (start .fits .offset .sfits)))
 
 pub with-offset-spec : {M : Type 1} → statement M
 with-offset-spec =
