@@ -17,7 +17,7 @@ use Rattle.records.specs.Front.{sizeOf, Front, end, unknown, short, whol
 use Rattle.records.specs.Run.{Outcome, rest, onto, follow, runs, run}
 use Rattle.records.proofs.ByFront.{at-tight, by-front}
 use Rattle.records.proofs.MoreBytes.{whole-within}
-use Rattle.records.proofs.Sizes.{short-most}
+use Rattle.records.proofs.Sizes.{at-least-shortest}
 
 empty : (bytes : List ℕ) → length bytes ≡ 0 → front bytes ≡ end
 unfolding front
@@ -41,31 +41,33 @@ follow-same closed d (whole r) same = ap (onto (line (reply d r .answer)) (sizeO
 
 -- two rooms of which either both have a line's length or none, here and behind each record
 module _
-    (Alike : ℕ → ℕ → List ℕ → Type 0)
+    (closed : Bool) (Alike : ℕ → ℕ → List ℕ → Type 0)
     (here : (room other : ℕ) (bytes : List ℕ) → Alike room other bytes → ltb room lineLength ≡ ltb other lineLength)
     (behind : (room other : ℕ) (bytes : List ℕ) (r : Call)
     → Alike room other bytes
     → sizeOf r ≤ length bytes
     → Alike (room - lineLength) (other - lineLength) (drop (sizeOf r) bytes))
   where
-    pub same-run : (fuel more : ℕ) (closed : Bool) {room other : ℕ} {bytes : List ℕ} (d : Drive)
-        → Alike room other bytes → length bytes ≤ fuel → length bytes ≤ more
+    pub same-run : (fuel more : ℕ) {room other : ℕ} {bytes : List ℕ} (d : Drive)
+        → Alike room other bytes → (length bytes ≤ fuel) × (length bytes ≤ more)
         → runs fuel closed room bytes d ≡ runs more closed other bytes d
     unfolding runs
-    same-run zero zero closed d alike few many = refl
-    same-run zero (suc more) closed {room} {other} {bytes} d alike few many = sym (rests more closed other bytes d few)
-    same-run (suc fuel) zero closed {room} {other} {bytes} d alike few many = rests fuel closed room bytes d many
-    same-run (suc fuel) (suc more) closed {room} {other} {bytes} d alike few many =
+    same-run zero zero d alike enough = refl
+    same-run zero (suc more) {room} {other} {bytes} d alike enough = sym (rests more closed other bytes d (enough .0))
+    same-run (suc fuel) zero {room} {other} {bytes} d alike enough = rests fuel closed room bytes d (enough .1)
+    same-run (suc fuel) (suc more) {room} {other} {bytes} d alike enough =
         rw (here room other bytes alike)
         (ap (cond (ltb other lineLength) (rest d))
         (follow-same closed d (front bytes)
-        (λ r is. same-run fuel more closed (reply d r .drive) (behind room other bytes r alike (whole-within bytes r is))
-        (omega (arith, short-most r, length-drop (sizeOf r) bytes)) (omega (arith, short-most r, length-drop (sizeOf r) bytes)))))
+        (λ r is.
+        let less = length-drop (sizeOf r) bytes in
+        same-run fuel more (reply d r .drive) (behind room other bytes r alike (whole-within bytes r is))
+        (omega (arith, at-least-shortest r, less, enough .0), omega (arith, at-least-shortest r, less, enough .1)))))
 
 -- in one room
 pub any-fuel : (fuel : ℕ) (closed : Bool) (room : ℕ) (bytes : List ℕ) (d : Drive) → length bytes ≤ fuel
     → runs fuel closed room bytes d ≡ run closed room bytes d
 any-fuel fuel closed room bytes d enough =
-    same-run (λ room other bytes. room ≡ other) (λ room other bytes same. ap (λ (room : ℕ). ltb room lineLength) same)
+    same-run closed (λ room other bytes. room ≡ other) (λ room other bytes same. ap (λ (room : ℕ). ltb room lineLength) same)
     (λ room other bytes r same all. ap (λ (room : ℕ). room - lineLength) same)
-    fuel (length bytes) closed d refl enough (omega arith)
+    fuel (length bytes) d refl (enough, omega arith)

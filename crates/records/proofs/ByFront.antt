@@ -1,5 +1,5 @@
 -- A run with room for a line does what stands at the front of its bytes, and the run with fuel for one record does no more.
-use mathlib.Core.Path.{_≡_}
+use mathlib.Core.Path.{_≡_, _∙_}
 use mathlib.Core.Bool.{Bool, true, false}
 use mathlib.Core.List.{List, append-nil}
 use Prim.Native.Nat.{ℕ, suc, _+_, _-_, _≤_, _<_}
@@ -23,10 +23,11 @@ module _ (fuel : ℕ) (closed : Bool) (room : ℕ) (bytes : List ℕ) (d : Drive
   unfolding runs
   by-front wide is = rw (le-ltb room lineLength wide, is)
 
-pub one-whole : (closed : Bool) (room : ℕ) (bytes : List ℕ) (d : Drive)
-    → lineLength ≤ room → (r : Call) → front bytes ≡ whole r
-    → runs 1 closed room bytes d ≡ lined (reply d r) (sizeOf r) false
-unfolding runs
-one-whole closed room bytes d wide r is =
-    let size : sizeOf r + 0 ≡ sizeOf r = omega arith in
-    rw (le-ltb room lineLength wide, is, append-nil, size)
+module _ (closed : Bool) (room : ℕ) (bytes : List ℕ) (d : Drive) (wide : lineLength ≤ room) where
+  pub one-front : {f : Front} → front bytes ≡ f
+      → runs 1 closed room bytes d ≡ follow closed d f (λ (r : Call). rest (reply d r .drive))
+  unfolding runs
+  one-front is = by-front 0 closed room bytes d wide is
+
+  pub one-whole : (r : Call) → front bytes ≡ whole r → runs 1 closed room bytes d ≡ lined (reply d r) (sizeOf r) false
+  one-whole r is = one-front is ∙ (let size : sizeOf r + 0 ≡ sizeOf r = omega arith in rw (append-nil, size))

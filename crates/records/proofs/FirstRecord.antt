@@ -18,7 +18,7 @@ use Rattle.records.specs.Run.{Outcome, rest, refused, onto, runs, run}
 use Rattle.records.proofs.AnyFuel.{any-fuel}
 use Rattle.records.proofs.ByFront.{at-tight, by-front, one-whole}
 use Rattle.records.proofs.MoreBytes.{Grown, no-byte, no-record, a-part, a-record, grown}
-use Rattle.records.proofs.Sizes.{short-most}
+use Rattle.records.proofs.Sizes.{at-least-shortest}
 
 module _ (closed : Bool) (room : ℕ) (bytes : List ℕ) (d : Drive) where
   -- the run with fuel for one record
@@ -56,7 +56,7 @@ module _ (closed : Bool) (room : ℕ) (bytes : List ℕ) (d : Drive) where
         record {
           fits = rw (first, length-line (reply d r .answer)) wide;
           within = rw first all;
-          stops = λ none. absurd (omega (arith, short-most r, rw first at none));
+          stops = λ none. absurd (omega (arith, at-least-shortest r, rw first at none));
           goes = λ _.
               rw (first, length-line (reply d r .answer))
               (spare ∙ by-front (length bytes) closed room bytes d wide is

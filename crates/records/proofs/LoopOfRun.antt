@@ -43,8 +43,8 @@ module _ (input : List ℕ) (closed : Bool) (lent : List ℕ) (first : Drive) wh
     pub out : output ≡ lines ++ drop (ran .written) lent
     pub same : everything ≡ onto lines (ran .taken) (run closed (length lent - ran .written) (drop (ran .taken) input) (ran .drive))
 
-  pub begun : Ongoing lent (ranOf (rest first))
-  begun =
+  pub at-start : Ongoing lent (ranOf (rest first))
+  at-start =
       let all : length lent - 0 ≡ length lent = omega arith in
       record {
         lines = [];

@@ -13,7 +13,7 @@ use Rattle.settings.specs.Settings.{settingCount}
 use Rattle.drive.specs.AnyCall.{Call, loads, cycles, ticks}
 use Rattle.records.specs.Decoded.{byte, number, numbers, loadSize, settingsOf, cycleSize, cycleOf, tickSize, tickOf}
 use Rattle.records.specs.Front.{sizeOf, mostHeld, Front, end, unknown, short, whole, held, begun, front}
-use Rattle.records.proofs.Sizes.{long-most}
+use Rattle.records.proofs.Sizes.{at-most-longest}
 
 -- the record is read off the bytes
 abbrev pub ReadOff : List ℕ → Call → Type 0
@@ -75,7 +75,7 @@ module _ (a b : List ℕ) where
   held-grown r s off same = go (ltb (length a) (sizeOf r)) refl
     where
       go : (few : Bool) → ltb (length a) (sizeOf r) ≡ few → Grown a (cond few short (whole r)) (held (length (a ++ b)) s)
-      go true e = a-part (omega (arith, long-most r, ltb-true (length a) (sizeOf r) e))
+      go true e = a-part (omega (arith, at-most-longest r, ltb-true (length a) (sizeOf r) e))
       go false e =
           let all : sizeOf r ≤ length a = ltb-false (length a) (sizeOf r) e in
           rw (same all, le-ltb (length (a ++ b)) (sizeOf r) (omega (arith, all, length-append a b))) (a-record r off all)

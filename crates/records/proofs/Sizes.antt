@@ -8,15 +8,15 @@ use Rattle.drive.specs.AnyCall.{Call, loads, cycles, ticks, reply}
 use Rattle.drive.specs.declared.Drive.{Drive}
 use Rattle.records.specs.Front.{sizeOf, shortest, longest}
 
-pub short-most : (r : Call) → shortest ≤ sizeOf r
-short-most (loads numbers) = omega arith
-short-most (cycles fields) = omega arith
-short-most (ticks fields) = omega arith
+pub at-least-shortest : (r : Call) → shortest ≤ sizeOf r
+at-least-shortest (loads numbers) = omega arith
+at-least-shortest (cycles fields) = omega arith
+at-least-shortest (ticks fields) = omega arith
 
-pub long-most : (r : Call) → sizeOf r ≤ longest
-long-most (loads numbers) = omega arith
-long-most (cycles fields) = omega arith
-long-most (ticks fields) = omega arith
+pub at-most-longest : (r : Call) → sizeOf r ≤ longest
+at-most-longest (loads numbers) = omega arith
+at-most-longest (cycles fields) = omega arith
+at-most-longest (ticks fields) = omega arith
 
 module _
     (P : List ℕ → Drive → Type 0)
@@ -25,10 +25,11 @@ module _
     → P bytes d)
   where
     within : (fuel : ℕ) (bytes : List ℕ) (d : Drive) → length bytes ≤ fuel → P bytes d
-    within zero bytes d few = behind bytes d (λ r all. absurd (omega (arith, short-most r, all)))
+    within zero bytes d few = behind bytes d (λ r all. absurd (omega (arith, at-least-shortest r, all)))
     within (suc fuel) bytes d few =
         behind bytes d
-        (λ r all. within fuel (drop (sizeOf r) bytes) (reply d r .drive) (omega (arith, short-most r, length-drop (sizeOf r) bytes)))
+        (λ r all. within fuel (drop (sizeOf r) bytes) (reply d r .drive)
+        (omega (arith, at-least-shortest r, length-drop (sizeOf r) bytes)))
 
     pub by-records : (bytes : List ℕ) (d : Drive) → P bytes d
     by-records bytes d = within (length bytes) bytes d (omega arith)

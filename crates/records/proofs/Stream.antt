@@ -1,4 +1,4 @@
--- A stream is answered in pieces as in one: what a run leaves of its bytes is the front of a record, and more bytes change nothing
+-- A stream is enough-room in pieces as in one: what a run leaves of its bytes is the front of a record, and more bytes change nothing
 -- before it.
 use mathlib.Core.Path.{_≡_, refl, ap, sym, subst, _∙_}
 use mathlib.Core.Bool.{Bool, true, false, cond}
@@ -20,7 +20,7 @@ use Rattle.records.proofs.AnyFuel.{follow-same, same-run}
 use Rattle.records.proofs.ByFront.{by-front}
 use Rattle.records.proofs.LoopOfRun.{onto-none, onto-onto}
 use Rattle.records.proofs.MoreBytes.{Grown, no-byte, no-record, a-part, a-record, grown, whole-within}
-use Rattle.records.proofs.Sizes.{short-most, by-records}
+use Rattle.records.proofs.Sizes.{at-least-shortest, by-records}
 
 -- room for the bytes is room for the line of the first record, and behind it for the others
 wide : (room : ℕ) (bytes : List ℕ) → Roomy room bytes → lineLength ≤ room
@@ -28,30 +28,30 @@ wide room bytes roomy = omega arith
 
 roomy-behind : (room : ℕ) (bytes : List ℕ) (r : Call) → Roomy room bytes → sizeOf r ≤ length bytes
     → Roomy (room - lineLength) (drop (sizeOf r) bytes)
-roomy-behind room bytes r roomy all = omega (arith, short-most r, length-drop (sizeOf r) bytes)
+roomy-behind room bytes r roomy all = omega (arith, at-least-shortest r, length-drop (sizeOf r) bytes)
 
 roomy-for : (bytes : List ℕ) → Roomy (lineLength * (length bytes + 1)) bytes
 roomy-for bytes = omega arith
 
 -- how much room there is changes nothing where there is enough
-answered : (fuel : ℕ) (closed : Bool) (bytes : List ℕ) (d : Drive) (room : ℕ) → length bytes ≤ fuel → Roomy room bytes
+enough-room : (fuel : ℕ) (closed : Bool) (bytes : List ℕ) (d : Drive) (room : ℕ) → length bytes ≤ fuel → Roomy room bytes
     → runs fuel closed room bytes d ≡ answers closed bytes d
-answered fuel closed bytes d room fueled roomy =
-    same-run (λ room other bytes. Roomy room bytes × Roomy other bytes)
+enough-room fuel closed bytes d room fueled roomy =
+    same-run closed (λ room other bytes. Roomy room bytes × Roomy other bytes)
     (λ room other bytes both.
     rw (le-ltb room lineLength (wide room bytes (both .0)), le-ltb other lineLength (wide other bytes (both .1))))
     (λ room other bytes r both all. (roomy-behind room bytes r (both .0) all, roomy-behind other bytes r (both .1) all))
-    fuel (length bytes) closed d (roomy, roomy-for bytes) fueled (omega arith)
+    fuel (length bytes) d (roomy, roomy-for bytes) (fueled, omega arith)
 
 -- the answer to all the bytes, by what stands at their front
 answers-at : (closed : Bool) (bytes : List ℕ) (d : Drive) {f : Front} → front bytes ≡ f
     → answers closed bytes d ≡ follow closed d f (λ (r : Call). answers closed (drop (sizeOf r) bytes) (reply d r .drive))
 answers-at closed bytes d {f} is =
     let room = lineLength * (length bytes + 1) in
-    sym (answered (suc (length bytes)) closed bytes d room (omega arith) (roomy-for bytes))
+    sym (enough-room (suc (length bytes)) closed bytes d room (omega arith) (roomy-for bytes))
     ∙ by-front (length bytes) closed room bytes d (omega arith) is
     ∙ follow-same closed d f
-    (λ r same. answered (length bytes) closed (drop (sizeOf r) bytes) (reply d r .drive) (room - lineLength)
+    (λ r same. enough-room (length bytes) closed (drop (sizeOf r) bytes) (reply d r .drive) (room - lineLength)
     (omega (arith, length-drop (sizeOf r) bytes)) (roomy-behind room bytes r (roomy-for bytes) (whole-within bytes r (is ∙ same))))
 
 -- the bytes `b` come after an open run over `a`
@@ -109,7 +109,7 @@ few-left = by-records FewLeft (λ a d again. first a d again (front a) (grown a 
 -- the program's lines have room enough
 roomy-run : (bytes : List ℕ) (d : Drive) (closed : Bool) → length bytes ≤ inputSize
     → run closed outputSize bytes d ≡ answers closed bytes d
-roomy-run bytes d closed fits = answered (length bytes) closed bytes d outputSize (omega arith) (omega arith)
+roomy-run bytes d closed fits = enough-room (length bytes) closed bytes d outputSize (omega arith) (omega arith)
 
 -- while the run goes on, no more is held than a part of a record, so that there is always room to read more
 pub left-few : (bytes : List ℕ) (d : Drive) → length bytes ≤ inputSize → openRun bytes d .ended ≡ false
@@ -140,12 +140,12 @@ module _
     → stream later (left bytes d) (openRun bytes d .drive)
     ≡ answers true (left bytes d ++ flatten later) (openRun bytes d .drive) .lines)
   where
-    then : (ended : Bool) → openRun bytes d .ended ≡ ended
+    piece-then : (ended : Bool) → openRun bytes d .ended ≡ ended
         → cond (openRun bytes d .ended) (openRun bytes d .lines)
         (openRun bytes d .lines ++ stream later (left bytes d) (openRun bytes d .drive))
         ≡ joined true (flatten later) bytes (openRun bytes d) .lines
-    then true e = rw e
-    then false e = rw e (ap (λ (lines : List ℕ). openRun bytes d .lines ++ lines) (again e))
+    piece-then true e = rw e
+    piece-then false e = rw e (ap (λ (lines : List ℕ). openRun bytes d .lines ++ lines) (again e))
 
 -- The lines of a stream do not depend on how it is cut: they are those of one run over all of it.
 pub one-stream : (pieces : List (List ℕ)) (held : List ℕ) (d : Drive) → Fit pieces held d
@@ -154,7 +154,8 @@ unfolding stream Fit flatten
 one-stream [] held d fits = rw (append-nil held) (ap (λ (o : Outcome). o .lines) (roomy-run held d true fits))
 one-stream (piece ∷ later) held d fits =
     let bytes : List ℕ = held ++ piece in
-    then later bytes d (λ goes. one-stream later (left bytes d) (openRun bytes d .drive) (fits .1 goes)) (openRun bytes d .ended) refl
+    piece-then later bytes d (λ goes. one-stream later (left bytes d) (openRun bytes d .drive) (fits .1 goes))
+    (openRun bytes d .ended) refl
     ∙ ap (λ (o : Outcome). joined true (flatten later) bytes o .lines) (roomy-run bytes d false (fits .0))
     ∙ ap (λ (o : Outcome). o .lines) (sym (in-parts true (flatten later) bytes d))
     ∙ ap (λ (l : List ℕ). answers true l d .lines) (append-assoc held piece (flatten later))

@@ -16,7 +16,8 @@ pub accepted : (answer : Answer) (lent : ℕ)
 accepted answer lent room number state gate =
     rw (le-ltb lent lineLength room, le-ltb 15 (answer .number) number, le-ltb 9 (answer .state) state, le-ltb 3 (answer .gate) gate)
 
-none-holds : (a b c d : Bool) → verdict (row 5 0 a ∷ row 5 1 b ∷ row 5 2 c ∷ row 5 3 d ∷ []) .number ≡ 0 → T (not a) × T (not c)
+none-holds : (a b c d : Bool) → verdict (row 5 0 a ∷ row 5 1 b ∷ row 5 2 c ∷ row 5 3 d ∷ []) .number ≡ 0
+    → T (not a) × T (not c)
 none-holds true b c d e = absurd (omega (arith, e))
 none-holds false true c d e = absurd (omega (arith, e))
 none-holds false false true d e = absurd (omega (arith, e))

@@ -19,12 +19,11 @@ slice-aggregate-write-all c =
     sym (length-take-le _ _ (omega (arith, run .ensures .1 .1 .1, run .kept .1 .1 .1 .0)))
 
 -- what `move_to_front` leaves at the front is the rest of what the run was lent
-front : (taken filled : ℕ) (before after : List ℕ) (held : ℕ)
-    → taken ≤ filled → filled ≤ length before → held ≡ filled - taken
+moved-front : (taken filled : ℕ) (before : List ℕ) {after : List ℕ} → taken ≤ filled → filled ≤ length before
     → after ≡ take (filled - taken) (drop taken before) ++ drop (filled - taken) before
-    → take held after ≡ take held (drop taken before)
-front taken filled before after held took within count out =
-    rw (out, count)
+    → take (filled - taken) after ≡ take (filled - taken) (drop taken before)
+moved-front taken filled before took within out =
+    rw out
     (take-at (take (filled - taken) (drop taken before)) (drop (filled - taken) before) (filled - taken)
     (length-take-le (filled - taken) (drop taken before) (omega (arith, length-drop taken before))))
 
@@ -51,9 +50,9 @@ returns c =
       record {
         left = ap (λ (r : Ran). r .drive) said;
         count = moved .ensures .0 ∙ ap (λ (n : ℕ). start .args .filled - n) took;
-        bytes = rw (← took)
-            (front (ran .taken) (start .args .filled) (now (start .args .input)) (moved .last .0) (moved .result)
-            (taken-within after-run) (start .pre) (moved .ensures .0) (moved .ensures .1));
+        bytes = rw (moved .ensures .0, ← took)
+            (moved-front (ran .taken) (start .args .filled) (now (start .args .input)) (taken-within after-run) (start .pre)
+            (moved .ensures .1));
         written = is-written;
         going = ap (λ (ended : Bool). is-written && not ended && not (start .args .closed)) (ap (λ (r : Ran). r .ended) said);
       },

@@ -7,7 +7,7 @@ use mir.Syntax.{w64}
 use mir.Val.{Fits}
 use borrow.Author.Needs.{needs}
 use Rattle.records.specs.declared.Ran.{Ran}
-use Rattle.records.proofs.LoopOfRun.{Ongoing, begun, length-output, Stepped, stepped}
+use Rattle.records.proofs.LoopOfRun.{Ongoing, at-start, length-output, Stepped, stepped}
 use Rattle.records.proofs.run.Statement.{statement}
 use Rattle.records.proofs.run.Tie as tie
 
@@ -47,7 +47,7 @@ run-spec =
     Inv-loop
     μ-loop
     (λ c κs. search needs)
-    (λ c. rw (c .resting .ensures) (begun _ _ _ _))
+    (λ c. rw (c .resting .ensures) (at-start _ _ _ _))
     (λ c. room c)
     (λ c. room c)
     (λ c. search needs)

@@ -4,7 +4,9 @@ use Rattle.report.proofs.verdict.Statement.{statement}
 use Rattle.report.proofs.verdict.Tie as tie
 
 returns : tie.Need-returns
-returns c = cc
+returns c =
+    let state = c .before .before .before in
+    rw (c .first4 .ensures, c .before .first3 .ensures, state .first2 .ensures, state .before .before .first .ensures)
 
 pub verdict-spec : {M : Type 1} → statement M
 verdict-spec =

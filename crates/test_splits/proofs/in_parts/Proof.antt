@@ -19,8 +19,8 @@ returns-2 c =
     let second = c .before .before .before in
     let first = second .before .before .before .before .before .before .before in
     let run = first .run in
-    omega
-    (arith, run .ensures .1 .1 .1, run .kept .1 .1 .1 .0, second .run2 .ensures .1 .1 .1, length-drop (run .result .written) (run .last .1 .1 .1 .0))
+    let left = length-drop (run .result .written) (run .last .1 .1 .1 .0) in
+    omega (arith, run .ensures .1 .1 .1, run .kept .1 .1 .1 .0, second .run2 .ensures .1 .1 .1)
 
 add-result : tie.Need-add-result
 add-result c =

@@ -11,14 +11,14 @@ use Rattle.drive.specs.AnyCall.{Call, loads, cycles, ticks, reply}
 use Rattle.drive.specs.declared.answer.Reply.{Reply}
 use Rattle.records.specs.Decoded.{loadSize, settingsOf}
 use Rattle.records.specs.Front.{sizeOf, Front, whole, front}
-use Rattle.records.specs.Run.{Outcome, rest, refused, lined, runs, ranOf, outputAfter}
+use Rattle.records.specs.Run.{Outcome, rest, refused, lined, follow, runs, ranOf, outputAfter}
 use Rattle.records.specs.declared.Ran.{Ran}
 use Rattle.records.specs.declared.Found.{Found}
 use Rattle.records.specs.declared.Found.the-variants.{End, Unknown, Short, Load, Cycle, Tick}
 use Rattle.records.proofs.Parts.{tail}
 use Rattle.records.proofs.Printed.{reply-printed}
 use Rattle.records.proofs.WhatIsFound.{Meaning, meaning}
-use Rattle.records.proofs.ByFront.{at-tight, by-front, one-whole}
+use Rattle.records.proofs.ByFront.{at-tight, one-front, one-whole}
 use Rattle.records.proofs.answers.step.Statement.{statement}
 use Rattle.records.proofs.answers.step.Tie as tie
 
@@ -44,6 +44,17 @@ module _ (c : tie.After-read) where
   abbrev meant : Outcome
   meant = runs 1 (start .args .closed) (length (now (start .args .output))) bytes (start .args .drive)
 
+  -- what the definition does about what stands at the front; and about a part of a record
+  at-front : {f : Front} → front bytes ≡ f
+      → meant ≡ follow (start .args .closed) (start .args .drive) f (λ (r : Call). rest (reply (start .args .drive) r .drive))
+  at-front is = one-front _ _ _ _ (c .before .if1 .left) is
+
+  at-short : c .read .result ≡ Short → {closed : Bool} → start .args .closed ≡ closed
+      → meant ≡ cond closed (refused (start .args .drive)) (rest (start .args .drive))
+  at-short known is =
+      let d = start .args .drive in
+      at-front (means Short known) ∙ ap (λ (b : Bool). cond b (refused d) (rest d)) is
+
   -- a whole record, and the reply to it
   module _ (r : Call) (is : front bytes ≡ whole r) {said : Reply} (same : said ≡ reply (start .args .drive) r) where
     replied : {result : Ran} {left : List ℕ}
@@ -66,29 +77,24 @@ same-load c = c .load-settings .ensures ∙ rw (c .before .settings-of .ensures,
 returns-2 : tie.Need-returns-2
 returns-2 c =
     let read = c .before .before .before in
-    met _ (by-front 0 _ _ _ _ (read .before .if1 .left) (means read End (c .before .enum-told .given .1))) (c .resting2 .ensures, refl)
+    met _ (at-front read (means read End (c .before .enum-told .given .1))) (c .resting2 .ensures, refl)
 
 returns-3 : tie.Need-returns-3
 returns-3 c =
-    let read = c .before .before .before .before .before .before in
-    met _ (by-front 0 _ _ _ _ (read .before .if1 .left) (means read Unknown (c .before .before .before .before .enum-told2 .given .1)))
-    (c .before .before .refusing .ensures)
+    let told = c .before .before .before .before in
+    let read = told .before .before in
+    met _ (at-front read (means read Unknown (told .enum-told2 .given .1))) (c .before .before .refusing .ensures)
 
 returns-4 : tie.Need-returns-4
 returns-4 c =
-    let if2 = c .before .before .before .before in
-    let read = if2 .before .before .before in
-    met _ (by-front 0 _ _ _ _ (read .before .if1 .left) (means read Short (if2 .before .enum-told3 .given .1))
-    ∙ ap (λ (b : Bool). cond b (refused (start read .args .drive)) (rest (start read .args .drive))) (if2 .if2 .taken))
+    let test = c .before .before .before .before in
+    met _ (at-short (test .before .before .before) (test .before .enum-told3 .given .1) (test .if2 .taken))
     (c .before .before .refusing2 .ensures)
 
 returns-5 : tie.Need-returns-5
 returns-5 c =
-    let if2 = c .before in
-    let read = if2 .before .before .before in
-    met _ (by-front 0 _ _ _ _ (read .before .if1 .left) (means read Short (if2 .before .enum-told3 .given .1))
-    ∙ ap (λ (b : Bool). cond b (refused (start read .args .drive)) (rest (start read .args .drive))) (if2 .if2 .left))
-    (c .resting3 .ensures, refl)
+    let test = c .before in
+    met _ (at-short (test .before .before .before) (test .before .enum-told3 .given .1) (test .if2 .left)) (c .resting3 .ensures, refl)
 
 returns-6 : tie.Need-returns-6
 returns-6 c =

@@ -11,7 +11,7 @@ use mir.Facts.{toZ-ofZ}
 use borrow.Author.Needs.{needs}
 use Rattle.report.specs.Text.{digits, signed}
 use Rattle.report.specs.Line.{name, line}
-use Rattle.report.proofs.Runs.{in-front, Run, then}
+use Rattle.report.proofs.Runs.{in-front, Stored, with-field}
 use Rattle.report.proofs.Digits.{length-digits}
 use Rattle.report.proofs.Fields.{length-signed, length-name, length-line}
 use Rattle.report.proofs.write.fields.Statement.{statement}
@@ -40,11 +40,11 @@ room c = omega arith
 fit : (c : tie.Start) → SFits w16 (c .args .answer .reference) × SFits w16 (c .args .answer .angle)
 fit c = search needs
 
-abbrev first : tie.After-put-signed2 → tie.Start
-first c = start (before-live (before-reference (before-position (before-angle c))))
+abbrev entry : tie.After-put-signed2 → tie.Start
+entry c = start (before-live (before-reference (before-position (before-angle c))))
 
 whole : (c : tie.After-put-signed2)
-    → Run (first c .args .lent .now) (line (first c .args .answer)) (c .put-signed2 .last .0) (c .put-signed2 .result)
+    → Stored (entry c .args .lent .now) (line (entry c .args .answer)) (c .put-signed2 .last .0) (c .put-signed2 .result)
 unfolding line
 whole c =
     let position = before-angle c in
@@ -53,20 +53,20 @@ whole c =
     let gate = before-live live in
     let state = gate .before .before .before .before .before in
     let number = state .before .before .before .before in
-    let answer = first c .args .answer in
-    let none : Run (first c .args .lent .now) [] (first c .args .lent .now) 0 = record { out = refl; place = refl } in
-    let to-number = then (digits 16 1 (answer .number)) 32 none (length-digits 16 1 _) (number .put-digits .ensures) in
-    let to-state = then (name (answer .state)) 32 to-number (length-name (answer .state)) (state .put-name .ensures) in
-    let to-gate = then (digits 10 1 (answer .gate)) 32 to-state (length-digits 10 1 _) (gate .put-digits2 .ensures) in
-    let to-live = then (digits 16 4 (answer .live)) 32 to-gate (length-digits 16 4 _) (live .put-digits3 .ensures) in
-    let to-reference =
-    then (signed (answer .reference)) 32 to-live (length-signed _) (rw (toZ-ofZ (fit (first c) .0)) at (reference .put-signed .ensures)) in
-    let to-position = then (digits 16 8 (answer .position)) 32 to-reference (length-digits 16 8 _) (position .put-digits4 .ensures) in
-    then (signed (answer .angle)) 10 to-position (length-signed _) (rw (toZ-ofZ (fit (first c) .1)) at (c .put-signed2 .ensures))
+    let answer = entry c .args .answer in
+    let none : Stored (entry c .args .lent .now) [] (entry c .args .lent .now) 0 = record { out = refl; place = refl } in
+    let to-number = with-field (digits 16 1 (answer .number)) 32 none (length-digits 16 1 _) (number .put-digits .ensures) in
+    let to-state = with-field (name (answer .state)) 32 to-number (length-name (answer .state)) (state .put-name .ensures) in
+    let to-gate = with-field (digits 10 1 (answer .gate)) 32 to-state (length-digits 10 1 _) (gate .put-digits2 .ensures) in
+    let to-live = with-field (digits 16 4 (answer .live)) 32 to-gate (length-digits 16 4 _) (live .put-digits3 .ensures) in
+    let put-reference = rw (toZ-ofZ (fit (entry c) .0)) at (reference .put-signed .ensures) in
+    let to-reference = with-field (signed (answer .reference)) 32 to-live (length-signed _) put-reference in
+    let to-position = with-field (digits 16 8 (answer .position)) 32 to-reference (length-digits 16 8 _) (position .put-digits4 .ensures) in
+    with-field (signed (answer .angle)) 10 to-position (length-signed _) (rw (toZ-ofZ (fit (entry c) .1)) at (c .put-signed2 .ensures))
 
 returns : tie.Need-returns
 returns c =
-    let before = first (c .before .before) in
+    let before = entry (c .before .before) in
     let lent = before .args .lent .now in
     let answer = before .args .answer in
     rw (whole (c .before .before) .out, in-front lent (line answer) (rw length-line (before .pre .0)), length-line)
