@@ -15,6 +15,10 @@ Inv-loop input₀ output₀ reads₀ held₀ input output reads held =
 abbrev μ-loop : tie.MeasureT-loop
 μ-loop input₀ output₀ reads₀ held₀ input output reads held = reads
 
+-- before the rest, so that a loop which goes on after the last read is refused for this fact
+read-on-requires : tie.Need-read-on-requires Inv-loop μ-loop
+read-on-requires c κs = search needs
+
 loop-again : tie.Need-loop-again Inv-loop μ-loop
 loop-again c =
     let read-on = c .before .before .before .before .read-on in
@@ -32,7 +36,7 @@ serve-spec =
     μ-loop
     (λ c κs. search needs)
     (λ c. (refl, refl, omega arith))
-    (λ c κs. search needs)
+    read-on-requires
     (λ c. search needs)
     (λ c. search needs)
     loop-again
