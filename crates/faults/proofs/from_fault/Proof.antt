@@ -7,4 +7,4 @@ returns : tie.Need-returns
 returns c = rw (c .pick-exit3 .ensures, c .before .pick-exit2 .ensures, c .before .before .pick-exit .ensures)
 
 pub from-fault-spec : {M : Type 1} → statement M
-from-fault-spec = tie.close (tie.spec (λ c κs. search needs) (λ c κs. search needs) (λ c κs. search needs) returns)
+from-fault-spec = tie.close (tie.spec (search needs) (search needs) (search needs) returns)

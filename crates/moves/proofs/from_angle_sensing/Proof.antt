@@ -4,6 +4,4 @@ use Rattle.moves.proofs.from_angle_sensing.Statement.{statement}
 use Rattle.moves.proofs.from_angle_sensing.Tie as tie
 
 pub from-angle-sensing-spec : {M : Type 1} → statement M
-from-angle-sensing-spec =
-    tie.close
-    (tie.spec (λ c. search needs) (λ c κs. search needs) (λ c κs. search needs) (λ c κs. search needs) (λ c. cc))
+from-angle-sensing-spec = tie.close (tie.spec (search needs) (search needs) (search needs) (search needs) (λ c. cc))

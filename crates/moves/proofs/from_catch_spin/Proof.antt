@@ -5,12 +5,6 @@ use Rattle.moves.proofs.from_catch_spin.Tie as tie
 
 pub from-catch-spin-spec : {M : Type 1} → statement M
 from-catch-spin-spec =
-    tie.close
-    (tie.spec
-    (λ c. search needs)
-    (λ c. search needs)
-    (λ c. search needs)
-    (λ c κs. search needs)
-    (λ c κs. search needs)
-    (λ c κs. search needs)
+    tie.close (tie.spec (λ c. search needs) (λ c. search needs) (λ c. search needs) (search needs) (search needs)
+    (search needs)
     (λ c. cc))

@@ -4,4 +4,4 @@ use Rattle.moves.proofs.from_offset_cal.Statement.{statement}
 use Rattle.moves.proofs.from_offset_cal.Tie as tie
 
 pub from-offset-cal-spec : {M : Type 1} → statement M
-from-offset-cal-spec = tie.close (tie.spec (λ c. search needs) (λ c κs. search needs) (λ c κs. search needs) (λ c. cc))
+from-offset-cal-spec = tie.close (tie.spec (search needs) (search needs) (search needs) (λ c. cc))

@@ -4,4 +4,4 @@ use Rattle.moves.proofs.from_stop.Statement.{statement}
 use Rattle.moves.proofs.from_stop.Tie as tie
 
 pub from-stop-spec : {M : Type 1} → statement M
-from-stop-spec = tie.close (tie.spec (λ c κs. search needs) (λ c κs. search needs) (λ c. cc))
+from-stop-spec = tie.close (tie.spec (search needs) (search needs) (λ c. cc))

@@ -47,11 +47,8 @@ cast-result-3 c =
 
 pub absolute-spec : {M : Type 1} → statement M
 absolute-spec =
-    tie.close
-    (tie.spec
+    tie.close (tie.spec
     (λ c. rw (toZ-ofZ (whole c)) (wide c))
-    sub-result
-    cast-result-2
+    sub-result cast-result-2
     (λ c. rw (toZ-ofZ (whole c), toZ-ofZ (wide c), opposite c, toZ-ofZ (opposite-fits c)))
-    cast-result-3
-    (λ c. search needs))
+    cast-result-3 (λ c. search needs))

@@ -37,8 +37,7 @@ module _ (c : tie.Else2) where
 
 pub limited-spec : {M : Type 1} → statement M
 limited-spec =
-    tie.close
-    (tie.spec
+    tie.close (tie.spec
     (λ c. above (c .before .args .number) (rw (toZ-ofZ (c .before .fits .number)) at (c .if1 .taken)))
     (λ c. below (c .before .before .args .number) (rw (toZ-ofZ (c .before .before .fits .number)) at (c .if2 .taken)))
     (λ c. rw (toZ-ofZ (c .before .before .fits .number)) (between c .0))

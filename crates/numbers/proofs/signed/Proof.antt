@@ -27,11 +27,6 @@ module _ (c : tie.Else1) where
 
 pub signed-spec : {M : Type 1} → statement M
 signed-spec =
-    tie.close
-    (tie.spec
-    (λ c. search needs)
-    (λ c. search needs)
-    (λ c. search needs)
-    difference
+    tie.close (tie.spec (search needs) (search needs) (search needs) difference
     (λ c. rw (lower c, toZ-ofZ (sfits-widen {w′ = w32} tt (word c))) (word c))
     (λ c. rw (lower c, toZ-ofZ (sfits-widen {w′ = w32} tt (word c)), toZ-ofZ (word c))))

@@ -60,15 +60,7 @@ returns c =
 
 pub answer-spec : {M : Type 1} → statement M
 answer-spec =
-    tie.close
-    (tie.spec
-    (λ c. search needs)
+    tie.close (tie.spec (search needs)
     (λ c. sym (length-take-le _ _ (c .before .before .before .pre)))
-    (λ c κs. search needs)
-    (λ c. search needs)
-    slice-aggregate-write-all
-    (λ c κs. search needs)
-    move-to-front-requires
-    (λ c. search needs)
-    (λ c. search needs)
-    returns)
+    (search needs) (search needs) slice-aggregate-write-all (search needs) move-to-front-requires (search needs)
+    (search needs) returns)

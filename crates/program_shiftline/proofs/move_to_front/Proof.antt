@@ -51,17 +51,6 @@ returns c =
 
 pub move-to-front-spec : {M : Type 1} → statement M
 move-to-front-spec =
-    tie.close
-    (tie.spec
-    Inv-loop
-    μ-loop
-    (λ c. search needs)
+    tie.close (tie.spec Inv-loop μ-loop (search needs)
     (λ c. (omega arith, refl, omega arith, refl, refl))
-    (λ c. search needs)
-    (λ c. search needs)
-    (λ c. search needs)
-    (λ c. search needs)
-    (λ c. search needs)
-    loop-again
-    (λ c. search needs)
-    returns)
+    (search needs) (search needs) (search needs) (search needs) (search needs) loop-again (search needs) returns)

@@ -30,19 +30,7 @@ loop-again c =
 
 pub serve-spec : {M : Type 1} → statement M
 serve-spec =
-    tie.close
-    (tie.spec
-    Inv-loop
-    μ-loop
-    (λ c κs. search needs)
+    tie.close (tie.spec Inv-loop μ-loop (search needs)
     (λ c. (refl, refl, omega arith))
-    read-on-requires
-    (λ c. search needs)
-    (λ c. search needs)
-    loop-again
-    (λ c. search needs)
-    (λ c. search needs)
-    (λ c. search needs)
-    (λ c. search needs)
-    (λ c. search needs)
-    (λ c. search needs))
+    read-on-requires (search needs) (search needs) loop-again (search needs) (search needs) (search needs)
+    (search needs) (search needs) (search needs))

@@ -99,23 +99,7 @@ returns-8 c =
 
 pub read-spec : {M : Type 1} → statement M
 read-spec =
-    tie.close
-    (tie.spec
+    tie.close (tie.spec
     (λ c. rw (none-left _ _ (c .if1 .taken)))
-    (λ c. search needs)
-    (λ c. search needs)
-    returns-2
-    returns-3
-    returns-4
-    (λ c. search needs)
-    (λ c. search needs)
-    (λ c. search needs)
-    (λ c κs. search needs)
-    returns-5
-    returns-6
-    (λ c. search needs)
-    (λ c. search needs)
-    (λ c. search needs)
-    (λ c κs. search needs)
-    returns-7
-    returns-8)
+    (search needs) (search needs) returns-2 returns-3 returns-4 (search needs) (search needs) (search needs)
+    (search needs) returns-5 returns-6 (search needs) (search needs) (search needs) (search needs) returns-7 returns-8)

@@ -42,16 +42,11 @@ returns c =
 
 pub run-spec : {M : Type 1} → statement M
 run-spec =
-    tie.close
-    (tie.spec
-    Inv-loop
-    μ-loop
-    (λ c κs. search needs)
+    tie.close (tie.spec Inv-loop μ-loop (search needs)
     (λ c. rw (c .resting .ensures) (at-start _ _ _ _))
     (λ c. room c)
     (λ c. room c)
-    (λ c. search needs)
-    (λ c κs. search needs)
+    (search needs) (search needs)
     (λ c. sums (c .before .before .before .before) .0)
     (λ c. sums (c .before .before .before .before .before) .1)
     (λ c. after (c .before .before .before .before .before .before .before) .length-kept)

@@ -30,4 +30,4 @@ returns-2 c =
     (said, c .before .before .fields .ensures ∙ rw (eq-eqb _ 0 (rw said at (accepted else1))))
 
 pub line-spec : {M : Type 1} → statement M
-line-spec = tie.close (tie.spec (λ c κs. search needs) returns fields-requires (λ c. search needs) returns-2)
+line-spec = tie.close (tie.spec (search needs) returns fields-requires (search needs) returns-2)

@@ -9,6 +9,4 @@ returns c =
     rw (c .first4 .ensures, c .before .first3 .ensures, state .first2 .ensures, state .before .before .first .ensures)
 
 pub verdict-spec : {M : Type 1} → statement M
-verdict-spec =
-    tie.close
-    (tie.spec (λ c κs. search needs) (λ c κs. search needs) (λ c κs. search needs) (λ c κs. search needs) returns)
+verdict-spec = tie.close (tie.spec (search needs) (search needs) (search needs) (search needs) returns)

@@ -11,14 +11,7 @@ returns-4 c =
 
 pub related-spec : {M : Type 1} → statement M
 related-spec =
-    tie.close
-    (tie.spec
-    (λ c. search needs)
-    (λ c. search needs)
-    (λ c. search needs)
-    (λ c. search needs)
-    (λ c. search needs)
-    (λ c. search needs)
+    tie.close (tie.spec (search needs) (search needs) (search needs) (search needs) (search needs) (search needs)
     (λ c. simp (c .match .keys1))
     (λ c. simp (c .match .keys2))
     (λ c. simp (c .match .keys3))

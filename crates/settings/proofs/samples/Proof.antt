@@ -29,4 +29,4 @@ returns-2 c =
     rw none
 
 pub samples-spec : {M : Type 1} → statement M
-samples-spec = tie.close (tie.spec (λ c. search needs) (λ c. search needs) returns returns-2)
+samples-spec = tie.close (tie.spec (search needs) (search needs) returns returns-2)

@@ -7,12 +7,6 @@ use Rattle.test_generated.proofs.print_lines.Tie as tie
 
 pub print-lines-spec : {M : Type 1} → statement M
 print-lines-spec =
-    tie.close
-    (tie.spec
-    (λ c κs. search needs)
-    (λ c κs. search needs)
-    (λ c. search needs)
+    tie.close (tie.spec (search needs) (search needs) (search needs)
     (λ c. sym (length-take-le _ _ (search needs)))
-    (λ c κs. search needs)
-    (λ c. search needs)
-    (λ c. search needs))
+    (search needs) (search needs) (search needs))

@@ -7,16 +7,8 @@ use Rattle.test_splits.proofs.compare.Tie as tie
 
 pub compare-spec : {M : Type 1} → statement M
 compare-spec =
-    tie.close
-    (tie.spec
-    (λ c κs. search needs)
-    (λ c κs. search needs)
-    (λ c. search needs)
+    tie.close (tie.spec (search needs) (search needs) (search needs)
     (λ c. sym (length-take-le _ _ (search needs)))
-    (λ c κs. search needs)
-    (λ c. search needs)
+    (search needs) (search needs)
     (λ c. sym (length-take-le _ _ (search needs)))
-    (λ c κs. search needs)
-    (λ c. search needs)
-    (λ c. search needs)
-    (λ c. search needs))
+    (search needs) (search needs) (search needs) (search needs))

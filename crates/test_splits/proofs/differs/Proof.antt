@@ -7,11 +7,6 @@ use Rattle.test_splits.proofs.differs.Tie as tie
 
 pub differs-spec : {M : Type 1} → statement M
 differs-spec =
-    tie.close
-    (tie.spec
-    (λ c κs. search needs)
-    (λ c. search needs)
+    tie.close (tie.spec (search needs) (search needs)
     (λ c. sym (length-take-le _ _ (search needs)))
-    (λ c κs. search needs)
-    (λ c. search needs)
-    (λ c. search needs))
+    (search needs) (search needs) (search needs))

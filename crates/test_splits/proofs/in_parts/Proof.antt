@@ -30,20 +30,8 @@ add-result c =
 
 pub in-parts-spec : {M : Type 1} → statement M
 in-parts-spec =
-    tie.close
-    (tie.spec
-    (λ c κs. search needs)
+    tie.close (tie.spec (search needs)
     (λ c. sym (length-take-le _ _ (c .before .before .before .before .pre)))
-    (λ c κs. search needs)
-    (λ c. search needs)
-    (λ c. search needs)
-    sub-run
+    (search needs) (search needs) (search needs) sub-run
     (λ c. sub-run c)
-    (λ c. search needs)
-    (λ c. search needs)
-    (λ c. search needs)
-    (λ c. search needs)
-    (λ c κs. search needs)
-    add-result
-    (λ c. search needs)
-    returns-2)
+    (search needs) (search needs) (search needs) (search needs) (search needs) add-result (search needs) returns-2)

@@ -6,6 +6,4 @@ use Rattle.drive.proofs.Drive.cycle.Tie as tie
 
 pub cycle-spec : {M : Type 1} → statement M
 unfolding cycle
-cycle-spec =
-    tie.close
-    (tie.spec (λ c κs. search needs) (λ c κs. search needs) (λ c κs. search needs) (λ c κs. search needs) (λ c. cc))
+cycle-spec = tie.close (tie.spec (search needs) (search needs) (search needs) (search needs) (λ c. cc))

@@ -14,12 +14,4 @@ returns c =
     )
 
 pub entered-spec : {M : Type 1} → statement M
-entered-spec =
-    tie.close
-    (tie.spec
-    (λ c κs. search needs)
-    (λ c κs. search needs)
-    (λ c κs. search needs)
-    (λ c κs. search needs)
-    (λ c κs. search needs)
-    returns)
+entered-spec = tie.close (tie.spec (search needs) (search needs) (search needs) (search needs) (search needs) returns)

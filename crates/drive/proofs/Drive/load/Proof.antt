@@ -28,12 +28,4 @@ returns-2 c =
 
 pub load-spec : {M : Type 1} → statement M
 unfolding load
-load-spec =
-    tie.close
-    (tie.spec
-    (λ c κs. search needs)
-    (λ c κs. search needs)
-    (λ c. cc)
-    (λ c κs. search needs)
-    (λ c κs. search needs)
-    returns-2)
+load-spec = tie.close (tie.spec (search needs) (search needs) (λ c. cc) (search needs) (search needs) returns-2)

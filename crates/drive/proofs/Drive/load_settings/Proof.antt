@@ -20,6 +20,4 @@ returns c =
     )
 
 pub load-settings-spec : {M : Type 1} → statement M
-load-settings-spec =
-    tie.close
-    (tie.spec (λ c κs. search needs) (λ c κs. search needs) (λ c κs. search needs) (λ c κs. search needs) returns)
+load-settings-spec = tie.close (tie.spec (search needs) (search needs) (search needs) (search needs) returns)

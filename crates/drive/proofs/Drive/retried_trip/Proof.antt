@@ -5,4 +5,5 @@ use Rattle.drive.proofs.Drive.retried_trip.Tie as tie
 
 pub retried-trip-spec : {M : Type 1} → statement M
 retried-trip-spec =
-    tie.close (tie.spec (λ c. search needs) (λ c. search needs) (λ c κs. search needs) (λ c κs. search needs) (λ c. cc))
+    tie.close (tie.spec (λ c. search needs) (λ c. search needs) (search needs) (search needs)
+    (λ c. cc))

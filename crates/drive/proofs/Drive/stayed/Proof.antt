@@ -4,4 +4,4 @@ use Rattle.drive.proofs.Drive.stayed.Statement.{statement}
 use Rattle.drive.proofs.Drive.stayed.Tie as tie
 
 pub stayed-spec : {M : Type 1} → statement M
-stayed-spec = tie.close (tie.spec (λ c κs. search needs) (λ c κs. search needs) (λ c. cc))
+stayed-spec = tie.close (tie.spec (search needs) (search needs) (λ c. cc))

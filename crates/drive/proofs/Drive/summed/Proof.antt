@@ -5,11 +5,5 @@ use Rattle.drive.proofs.Drive.summed.Tie as tie
 
 pub summed-spec : {M : Type 1} → statement M
 summed-spec =
-    tie.close
-    (tie.spec
-    (λ c κs. search needs)
-    (λ c. search needs)
-    (λ c κs. search needs)
-    (λ c κs. search needs)
-    (λ c κs. search needs)
+    tie.close (tie.spec (search needs) (search needs) (search needs) (search needs) (search needs)
     (λ c. cc))

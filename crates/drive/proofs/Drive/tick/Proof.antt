@@ -6,6 +6,4 @@ use Rattle.drive.proofs.Drive.tick.Tie as tie
 
 pub tick-spec : {M : Type 1} → statement M
 unfolding tick
-tick-spec =
-    tie.close
-    (tie.spec (λ c κs. search needs) (λ c κs. search needs) (λ c κs. search needs) (λ c κs. search needs) (λ c. cc))
+tick-spec = tie.close (tie.spec (search needs) (search needs) (search needs) (search needs) (λ c. cc))

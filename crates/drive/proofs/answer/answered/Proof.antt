@@ -17,6 +17,4 @@ returns c =
     )
 
 pub answered-spec : {M : Type 1} → statement M
-answered-spec =
-    tie.close
-    (tie.spec (λ c κs. search needs) (λ c κs. search needs) (λ c κs. search needs) (λ c κs. search needs) returns)
+answered-spec = tie.close (tie.spec (search needs) (search needs) (search needs) (search needs) returns)

@@ -8,6 +8,4 @@ returns : tie.Need-returns
 returns c = cc (div-one (c .before .before .before .before .args .live))
 
 pub gate-spec : {M : Type 1} → statement M
-gate-spec =
-    tie.close
-    (tie.spec (λ c κs. search needs) (λ c κs. search needs) (λ c κs. search needs) (λ c κs. search needs) returns)
+gate-spec = tie.close (tie.spec (search needs) (search needs) (search needs) (search needs) returns)

@@ -27,4 +27,4 @@ returns c =
     )
 
 pub reported-spec : {M : Type 1} → statement M
-reported-spec = tie.close (tie.spec div-limited (λ c κs. search needs) returns)
+reported-spec = tie.close (tie.spec div-limited (search needs) returns)

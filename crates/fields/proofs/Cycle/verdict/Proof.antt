@@ -4,4 +4,4 @@ use Rattle.fields.proofs.Cycle.verdict.Statement.{statement}
 use Rattle.fields.proofs.Cycle.verdict.Tie as tie
 
 pub verdict-spec : {M : Type 1} → statement M
-verdict-spec = tie.close (tie.spec (λ c κs. search needs) (λ c κs. search needs) (λ c κs. search needs) (λ c. cc))
+verdict-spec = tie.close (tie.spec (search needs) (search needs) (search needs) (λ c. cc))

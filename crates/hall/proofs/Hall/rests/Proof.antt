@@ -9,4 +9,4 @@ returns : tie.Need-returns
 returns c = rw (toZ-ofZ {w = w16} {z = c .before .before .args .self .angle} (search needs), c .before .count-up .ensures)
 
 pub rests-spec : {M : Type 1} → statement M
-rests-spec = tie.close (tie.spec (λ c κs. search needs) returns)
+rests-spec = tie.close (tie.spec (search needs) returns)

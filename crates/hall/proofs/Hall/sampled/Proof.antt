@@ -48,30 +48,11 @@ returns-5 c =
 pub sampled-spec : {M : Type 1} → statement M
 unfolding sampled
 sampled-spec =
-    tie.close
-    (tie.spec
-    (λ c κs. search needs)
-    (λ c. search needs)
-    (λ c κs. search needs)
-    (λ c. search needs)
-    (λ c κs. search needs)
-    (λ c κs. search needs)
-    (λ c. search needs)
-    (λ c κs. search needs)
-    (λ c. search needs)
-    (λ c κs. search needs)
-    (λ c κs. search needs)
-    (λ c κs. search needs)
-    (λ c κs. search needs)
-    (λ c. search needs)
-    (λ c κs. search needs)
-    (λ c κs. search needs)
-    (λ c κs. search needs)
-    (λ c. search needs)
-    (λ c κs. search needs)
+    tie.close (tie.spec (search needs) (search needs) (search needs) (search needs) (search needs) (search needs)
+    (search needs) (search needs) (search needs) (search needs) (search needs) (search needs) (search needs)
+    (search needs) (search needs) (search needs) (search needs) (search needs) (search needs)
     (λ c. rw (← c .before .before .before .judged .ensures, c .before .enum-told .given .1) (c .dead-sample .ensures))
     returns-2
     (λ c. rw (← c .before .before .before .judged .ensures, c .before .enum-told3 .given .1) (c .rests .ensures))
-    returns-4
-    returns-5
+    returns-4 returns-5
     (λ c. rw (← c .before .before .before .judged .ensures, c .before .enum-told6 .given .1) (c .stray-sample .ensures)))

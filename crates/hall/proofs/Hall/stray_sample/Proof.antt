@@ -8,10 +8,7 @@ use Rattle.hall.proofs.Hall.stray_sample.Tie as tie
 pub stray-sample-spec : {M : Type 1} → statement M
 unfolding straySample
 stray-sample-spec =
-    tie.close
-    (tie.spec
-    (λ c κs. search needs)
-    (λ c κs. search needs)
+    tie.close (tie.spec (search needs) (search needs)
     (λ c. rw (← c .before .before .count-up .ensures, eq-eqb _ _ (c .before .if1 .taken)) (c .rests .ensures))
-    (λ c κs. search needs)
+    (search needs)
     (λ c. rw (← c .before .before .count-up .ensures, ne-eqb _ _ (c .before .if1 .left)) (c .rests2 .ensures)))

@@ -45,4 +45,4 @@ returns-2 c =
     (not-below (c .before .before .args .number) (rw (toZ-ofZ fits) at (c .if1 .left)))
 
 pub bits-spec : {M : Type 1} → statement M
-bits-spec = tie.close (tie.spec (λ c κs. search needs) (λ c κs. search needs) returns returns-2)
+bits-spec = tie.close (tie.spec (search needs) (search needs) returns returns-2)

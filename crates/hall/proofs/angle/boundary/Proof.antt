@@ -14,4 +14,4 @@ returns c =
     )
 
 pub boundary-spec : {M : Type 1} → statement M
-boundary-spec = tie.close (tie.spec (λ c κs. search needs) (λ c κs. search needs) (λ c κs. search needs) returns)
+boundary-spec = tie.close (tie.spec (search needs) (search needs) (search needs) returns)

@@ -14,4 +14,4 @@ returns c =
     )
 
 pub middle-spec : {M : Type 1} → statement M
-middle-spec = tie.close (tie.spec (λ c κs. search needs) (λ c κs. search needs) (λ c κs. search needs) returns)
+middle-spec = tie.close (tie.spec (search needs) (search needs) (search needs) returns)

@@ -20,8 +20,7 @@ returns-7 c =
 pub sector-of-spec : {M : Type 1} → statement M
 unfolding sectorOf
 sector-of-spec =
-    tie.close
-    (tie.spec
+    tie.close (tie.spec
     (λ c. rw (c .match .keys1))
     (λ c. rw (c .match .keys2))
     (λ c. rw (c .match .keys3))

@@ -25,4 +25,4 @@ returns c =
     ap (toZ w16) (eqb→eq (ofZ w16 (getD table k (pos 0))) (65536 * k / 12) (at right table (pos 0) tt k (omega arith)))
 
 pub twelfth-spec : {M : Type 1} → statement M
-twelfth-spec = tie.close (tie.spec (λ c. search needs) (λ c. search needs) returns)
+twelfth-spec = tie.close (tie.spec (search needs) (search needs) returns)

@@ -39,6 +39,4 @@ returns c =
     )
 
 pub with-offset-spec : {M : Type 1} → statement M
-with-offset-spec =
-    tie.close
-    (tie.spec (λ c κs. search needs) (λ c κs. search needs) (λ c κs. search needs) (λ c κs. search needs) returns)
+with-offset-spec = tie.close (tie.spec (search needs) (search needs) (search needs) (search needs) returns)

@@ -28,10 +28,7 @@ returns-5 c =
 pub between-spec : {M : Type 1} → statement M
 unfolding beside
 between-spec =
-    tie.close
-    (tie.spec
-    (λ c. search needs)
-    (λ c. search needs)
+    tie.close (tie.spec (search needs) (search needs)
     (λ c. rw (c .before .before .kept .given .1, eq-eqb _ _ (c .if1 .taken)))
     (λ c. rw (c .before .before .before .kept .given .1, ne-eqb _ _ (c .before .if1 .left), eq-eqb _ _ (c .if2 .taken)))
     returns-3

@@ -21,14 +21,7 @@ returns-7 c =
 pub judged-spec : {M : Type 1} → statement M
 unfolding fate
 judged-spec =
-    tie.close
-    (tie.spec
-    (λ c κs. search needs)
-    (λ c κs. search needs)
-    (λ c κs. search needs)
-    (λ c κs. search needs)
-    (λ c κs. search needs)
-    (λ c κs. search needs)
+    tie.close (tie.spec (search needs) (search needs) (search needs) (search needs) (search needs) (search needs)
     (λ c. rw (c .before .match .keys1) (c .between .ensures))
     (λ c. rw (c .before .match .keys2) (c .between2 .ensures))
     (λ c. rw (c .before .match .keys3) (c .between3 .ensures))

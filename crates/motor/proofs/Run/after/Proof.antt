@@ -13,4 +13,4 @@ returns-3 : tie.Need-returns-3
 returns-3 c = rw (c .before .if1 .left, c .if2 .left)
 
 pub after-spec : {M : Type 1} → statement M
-after-spec = tie.close (tie.spec (λ c κs. search needs) returns (λ c κs. search needs) returns-2 returns-3)
+after-spec = tie.close (tie.spec (search needs) returns (search needs) returns-2 returns-3)

@@ -13,4 +13,4 @@ returns c =
     )
 
 pub ran-spec : {M : Type 1} → statement M
-ran-spec = tie.close (tie.spec (λ c κs. search needs) returns)
+ran-spec = tie.close (tie.spec (search needs) returns)

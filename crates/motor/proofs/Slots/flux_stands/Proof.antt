@@ -4,4 +4,4 @@ use Rattle.motor.proofs.Slots.flux_stands.Statement.{statement}
 use Rattle.motor.proofs.Slots.flux_stands.Tie as tie
 
 pub flux-stands-spec : {M : Type 1} → statement M
-flux-stands-spec = tie.close (tie.spec (λ c κs. search needs) (λ c κs. search needs) (λ c. cc))
+flux-stands-spec = tie.close (tie.spec (search needs) (search needs) (λ c. cc))

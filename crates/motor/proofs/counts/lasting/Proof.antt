@@ -4,4 +4,4 @@ use Rattle.motor.proofs.counts.lasting.Statement.{statement}
 use Rattle.motor.proofs.counts.lasting.Tie as tie
 
 pub lasting-spec : {M : Type 1} → statement M
-lasting-spec = tie.close (tie.spec (λ c κs. search needs) (λ c κs. search needs) (λ c. cc))
+lasting-spec = tie.close (tie.spec (search needs) (search needs) (λ c. cc))

@@ -4,4 +4,4 @@ use Rattle.motor.proofs.counts.lasts.Statement.{statement}
 use Rattle.motor.proofs.counts.lasts.Tie as tie
 
 pub lasts-spec : {M : Type 1} → statement M
-lasts-spec = tie.close (tie.spec (λ c κs. search needs) (λ c. cc))
+lasts-spec = tie.close (tie.spec (search needs) (λ c. cc))

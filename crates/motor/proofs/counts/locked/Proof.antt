@@ -14,5 +14,4 @@ returns c =
     )
 
 pub locked-spec : {M : Type 1} → statement M
-locked-spec =
-    tie.close (tie.spec (λ c κs. search needs) (λ c κs. search needs) (λ c. search needs) (λ c. search needs) returns)
+locked-spec = tie.close (tie.spec (search needs) (search needs) (search needs) (search needs) returns)

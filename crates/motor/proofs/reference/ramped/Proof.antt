@@ -19,5 +19,4 @@ returns c =
     )
 
 pub ramped-spec : {M : Type 1} → statement M
-ramped-spec =
-    tie.close (tie.spec (λ c. search needs) (λ c κs. search needs) times-2048-requires (λ c κs. search needs) returns)
+ramped-spec = tie.close (tie.spec (search needs) (search needs) times-2048-requires (search needs) returns)

@@ -25,4 +25,6 @@ returns c =
 
 pub starting-spec : {M : Type 1} → statement M
 starting-spec =
-    tie.close (tie.spec (λ c. rw (toZ-ofZ (whole c)) (sfits-widen tt (whole c))) times-2048-requires returns)
+    tie.close (tie.spec
+    (λ c. rw (toZ-ofZ (whole c)) (sfits-widen tt (whole c)))
+    times-2048-requires returns)

@@ -29,15 +29,6 @@ returns-2 c =
 
 pub target-spec : {M : Type 1} → statement M
 target-spec =
-    tie.close
-    (tie.spec
-    (λ c. search needs)
-    (λ c. search needs)
-    (λ c. search needs)
-    (λ c. search needs)
-    (λ c κs. search needs)
+    tie.close (tie.spec (search needs) (search needs) (search needs) (search needs) (search needs)
     (λ c. record { sfits = omega (arith, c .target-1 .ensures .1) })
-    returns
-    (λ c. search needs)
-    (λ c κs. search needs)
-    returns-2)
+    returns (search needs) (search needs) returns-2)

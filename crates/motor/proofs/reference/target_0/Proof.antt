@@ -63,13 +63,6 @@ returns-3 c =
 
 pub target-0-spec : {M : Type 1} → statement M
 target-0-spec =
-    tie.close
-    (tie.spec
-    (λ c κs. search needs)
-    (λ c. search needs)
-    sub-result
-    returns
-    (λ c. search needs)
-    returns-2
+    tie.close (tie.spec (search needs) (search needs) sub-result returns (search needs) returns-2
     (λ c. rw (toZ-ofZ (c .before .before .fits .target)) (sfits-widen tt (c .before .before .fits .target)))
     returns-3)

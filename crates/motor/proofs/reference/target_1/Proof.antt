@@ -15,10 +15,9 @@ product c =
 
 pub target-1-spec : {M : Type 1} → statement M
 target-1-spec =
-    tie.close
-    (tie.spec
+    tie.close (tie.spec
     (λ c. (rw (lt-ltb _ _ (c .if1 .taken)), c .before .fits .minimum .fits))
-    (λ c. search needs)
+    (search needs)
     (λ c. record { fits = omega (arith, product (c .before)) })
     (λ c. record { fits = omega (arith, product (c .before), c .before .fits .minimum .fits) })
     (λ c. (rw (le-ltb _ _ (c .before .if1 .left)) (omega (arith, c .if2 .taken)), omega arith))

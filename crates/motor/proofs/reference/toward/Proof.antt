@@ -109,17 +109,14 @@ returns-2 c =
 pub toward-spec : {M : Type 1} → statement M
 unfolding toward
 toward-spec =
-    tie.close
-    (tie.spec
+    tie.close (tie.spec
     (λ c. rw (toZ-ofZ (c .fits .target)) (sfits-widen tt (c .fits .target)))
     (λ c. rw (toZ-ofZ (c .fits .reference)) (sfits-widen tt (c .fits .reference)))
-    (λ c. search needs)
+    (search needs)
     (λ c. rw (widened (c .fits .reference), rate c) (above-wide c))
-    cast-result
-    returns
+    cast-result returns
     (λ c. rw (toZ-ofZ (c .before .fits .reference)) (sfits-widen tt (c .before .fits .reference)))
-    (λ c. search needs)
+    (search needs)
     (λ c. rw (widened (c .before .fits .reference), rate (c .before)) (below-wide (c .before)))
-    cast-result-2
-    returns-2
+    cast-result-2 returns-2
     (λ c. rw (toZ-ofZ (c .before .before .fits .target), not-low (c .before), not-high c)))

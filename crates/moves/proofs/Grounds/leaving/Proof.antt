@@ -5,11 +5,5 @@ use Rattle.moves.proofs.Grounds.leaving.Tie as tie
 
 pub leaving-spec : {M : Type 1} → statement M
 leaving-spec =
-    tie.close
-    (tie.spec
-    (λ c. search needs)
-    (λ c. search needs)
-    (λ c. search needs)
-    (λ c κs. search needs)
-    (λ c κs. search needs)
+    tie.close (tie.spec (λ c. search needs) (λ c. search needs) (λ c. search needs) (search needs) (search needs)
     (λ c. cc))

@@ -7,11 +7,5 @@ use Rattle.moves.proofs.Grounds.move_of.Tie as tie
 pub move-of-spec : {M : Type 1} → statement M
 unfolding moveOf
 move-of-spec =
-    tie.close
-    (tie.spec
-    (λ c κs. search needs)
-    (λ c κs. search needs)
-    (λ c κs. search needs)
-    (λ c κs. search needs)
-    (λ c κs. search needs)
+    tie.close (tie.spec (search needs) (search needs) (search needs) (search needs) (search needs)
     (λ c. cc))

@@ -17,27 +17,10 @@ returns-9 c =
 
 pub own-move-spec : {M : Type 1} → statement M
 own-move-spec =
-    tie.close
-    (tie.spec
-    (λ c κs. search needs)
-    (λ c. search needs)
-    (λ c. search needs)
-    (λ c κs. search needs)
-    (λ c. search needs)
-    (λ c κs. search needs)
-    (λ c. search needs)
-    (λ c κs. search needs)
-    (λ c. search needs)
-    (λ c. search needs)
-    (λ c κs. search needs)
-    (λ c. search needs)
-    (λ c κs. search needs)
-    (λ c. search needs)
-    (λ c κs. search needs)
-    (λ c. search needs)
-    (λ c κs. search needs)
-    (λ c. search needs)
-    (λ c κs. search needs)
+    tie.close (tie.spec (search needs) (λ c. search needs) (λ c. search needs) (search needs) (λ c. search needs)
+    (search needs) (λ c. search needs) (search needs) (λ c. search needs) (λ c. search needs) (search needs)
+    (λ c. search needs) (search needs) (λ c. search needs) (search needs) (λ c. search needs) (search needs)
+    (λ c. search needs) (search needs)
     (λ c. rw (c .enum-told .given .1))
     (λ c. rw (c .before .enum-told2 .given .1, c .from-stop .ensures))
     (λ c. rw (c .before .enum-told3 .given .1, c .from-offset-cal .ensures))

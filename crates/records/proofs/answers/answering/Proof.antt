@@ -11,4 +11,4 @@ returns c =
     rw (length-line (start .args .reply .answer)) (refl, c .before .before .line .ensures .1 ∙ rw (start .pre))
 
 pub answering-spec : {M : Type 1} → statement M
-answering-spec = tie.close (tie.spec (λ c κs. search needs) (λ c. search needs) returns)
+answering-spec = tie.close (tie.spec (search needs) (search needs) returns)

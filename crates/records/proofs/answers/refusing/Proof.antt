@@ -12,4 +12,4 @@ returns : tie.Need-returns
 returns c = rw (c .before .before .before .before .answered .ensures) at (c .before .before .answering .ensures)
 
 pub refusing-spec : {M : Type 1} → statement M
-refusing-spec = tie.close (tie.spec (λ c κs. search needs) answering-requires (λ c. search needs) returns)
+refusing-spec = tie.close (tie.spec (search needs) answering-requires (search needs) returns)

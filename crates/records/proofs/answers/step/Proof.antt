@@ -120,40 +120,19 @@ returns-8 c =
 
 pub step-spec : {M : Type 1} → statement M
 step-spec =
-    tie.close
-    (tie.spec
-    (λ c κs. search needs)
+    tie.close (tie.spec (search needs)
     (λ c. met _ (at-tight 0 _ _ _ _ (c .before .if1 .taken)) (c .resting .ensures, refl))
-    (λ c κs. search needs)
-    (λ c. search needs)
-    (λ c κs. search needs)
-    (λ c. search needs)
-    (λ c κs. search needs)
-    (λ c. search needs)
-    (λ c κs. search needs)
-    (λ c κs. search needs)
-    (λ c. search needs)
+    (search needs) (search needs) (search needs) (search needs) (search needs) (search needs) (search needs)
+    (search needs) (search needs)
     (λ c. omega (arith, fits c))
     (λ c. omega (arith, fits c))
-    (λ c. search needs)
+    (search needs)
     (λ c κs. simp tail (loaded (c .before) .1))
-    (λ c κs. search needs)
+    (search needs)
     (λ c κs. reply-printed _ (loads _) _ (same-load (c .before)) (c .before .before .before .before .before .before .before .if1 .left))
-    (λ c. search needs)
-    (λ c κs. search needs)
+    (search needs) (search needs)
     (λ c κs. reply-printed _ (cycles _) _ (c .before .cycle .ensures) (c .before .before .before .before .before .before .if1 .left))
-    (λ c. search needs)
-    (λ c κs. search needs)
+    (search needs) (search needs)
     (λ c κs. reply-printed _ (ticks _) _ (c .before .tick .ensures) (c .before .before .before .before .before .before .if1 .left))
-    returns-2
-    (λ c. search needs)
-    returns-3
-    (λ c. search needs)
-    returns-4
-    returns-5
-    (λ c. search needs)
-    returns-6
-    (λ c. search needs)
-    returns-7
-    (λ c. search needs)
-    returns-8)
+    returns-2 (search needs) returns-3 (search needs) returns-4 returns-5 (search needs) returns-6 (search needs)
+    returns-7 (search needs) returns-8)

@@ -9,10 +9,4 @@ unfolding cycleOf
 returns c = cc
 
 pub cycle-of-spec : {M : Type 1} → statement M
-cycle-of-spec =
-    tie.close
-    (tie.spec
-    (λ c. search needs)
-    (λ c κs. search needs)
-    (λ c κs. search needs)
-    returns)
+cycle-of-spec = tie.close (tie.spec (search needs) (search needs) (search needs) returns)

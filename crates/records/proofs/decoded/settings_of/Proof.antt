@@ -56,17 +56,7 @@ returns c =
 
 pub settings-of-spec : {M : Type 1} → statement M
 settings-of-spec =
-    tie.close
-    (tie.spec
-    Inv-loop
-    μ-loop
+    tie.close (tie.spec Inv-loop μ-loop
     (λ c. (omega arith, refl, c .before .pre, refl))
-    (λ c. search needs)
-    (λ c. search needs)
-    (λ c κs. search needs)
-    (λ c. search needs)
-    (λ c. search needs)
-    (λ c. search needs)
-    (λ c. search needs)
-    loop-again
-    returns)
+    (search needs) (search needs) (search needs) (search needs) (search needs) (search needs) (search needs)
+    loop-again returns)

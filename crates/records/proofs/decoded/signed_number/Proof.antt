@@ -10,9 +10,4 @@ returns c =
     rw (toZ-ofZ {w = w16} {z = c .signed .result} (search needs), c .signed .ensures, c .before .number .ensures)
 
 pub signed-number-spec : {M : Type 1} → statement M
-signed-number-spec =
-    tie.close
-    (tie.spec
-    (λ c κs. search needs)
-    (λ c κs. search needs)
-    returns)
+signed-number-spec = tie.close (tie.spec (search needs) (search needs) returns)

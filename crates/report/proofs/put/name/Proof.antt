@@ -25,4 +25,4 @@ returns : tie.Need-returns
 returns c = padded-at names (c .before .args .state) (search needs)
 
 pub name-spec : {M : Type 1} → statement M
-name-spec = tie.close (tie.spec (λ c. search needs) (λ c. search needs) returns)
+name-spec = tie.close (tie.spec (search needs) (search needs) returns)

@@ -54,20 +54,11 @@ returns c =
 
 pub put-digits-spec : {M : Type 1} → statement M
 put-digits-spec =
-    tie.close
-    (tie.spec
-    Inv-loop
-    μ-loop
+    tie.close (tie.spec Inv-loop μ-loop
     (λ c. (search needs, refl, refl))
-    (λ c. search needs)
-    (λ c. search needs)
+    (search needs) (search needs)
     (λ c κs. omega (arith, mod-lt (c .before .loop .rest) (c .before .before .before .pre .0 .0)))
-    (λ c. search needs)
-    (λ c. search needs)
-    (λ c. search needs)
-    loop-again
-    (λ c. search needs)
+    (search needs) (search needs) (search needs) loop-again (search needs)
     (λ c. rw (all-made (c .before .before), length-digits))
     (λ c κs. rw (all-made (c .before .before), length-digits) (search needs))
-    (λ c. search needs)
-    returns)
+    (search needs) returns)

@@ -12,6 +12,4 @@ returns c =
     (put .0 ∙ rw (name, length-name), put .1 ∙ rw name)
 
 pub put-name-spec : {M : Type 1} → statement M
-put-name-spec =
-    tie.close
-    (tie.spec (λ c κs. search needs) (λ c. search needs) (λ c κs. search needs) (λ c. search needs) returns)
+put-name-spec = tie.close (tie.spec (search needs) (search needs) (search needs) (search needs) returns)

@@ -27,13 +27,7 @@ returns c =
 
 pub put-signed-spec : {M : Type 1} → statement M
 put-signed-spec =
-    tie.close
-    (tie.spec
-    (λ c κs. search needs)
-    (λ c. search needs)
-    (λ c. search needs)
-    (λ c κs. search needs)
-    (λ c. search needs)
+    tie.close (tie.spec (search needs) (search needs) (search needs) (search needs) (search needs)
     (λ c κs. simp length-set (omega arith))
     (λ c. c .before .before .put-digits .kept .0 ∙ simp length-set)
     returns)

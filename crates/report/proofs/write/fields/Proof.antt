@@ -73,15 +73,8 @@ returns c =
 
 pub fields-spec : {M : Type 1} → statement M
 fields-spec =
-    tie.close
-    (tie.spec
-    (λ c. search needs)
-    (λ c κs. search needs)
-    (λ c κs. search needs)
-    (λ c. search needs)
-    (λ c κs. search needs)
-    (λ c. search needs)
-    (λ c κs. search needs)
+    tie.close (tie.spec (search needs) (search needs) (search needs) (search needs) (search needs) (search needs)
+    (search needs)
     (λ c κs. omega (arith, room (before-live (c .before .before .before .before))))
     (λ c κs. let live = before-reference (c .before .before .before) in omega (arith, room (before-live live)))
     (λ c κs. let live = before-reference (before-position (c .before .before .before .before)) in omega (arith, room (before-live live)))

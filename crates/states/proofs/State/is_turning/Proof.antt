@@ -9,8 +9,4 @@ returns c =
     (c .number .ensures)
 
 pub is-turning-spec : {M : Type 1} → statement M
-is-turning-spec =
-    tie.close
-    (tie.spec
-    (λ c κs. search needs)
-    returns)
+is-turning-spec = tie.close (tie.spec (search needs) returns)

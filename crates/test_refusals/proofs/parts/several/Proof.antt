@@ -14,24 +14,7 @@ abbrev μ-loop : tie.MeasureT-loop
 
 pub several-spec : {M : Type 1} → statement M
 several-spec =
-    tie.close
-    (tie.spec
-    Inv-loop
-    μ-loop
-    (λ c. search needs)
-    (λ c. search needs)
-    (λ c. search needs)
-    (λ c. search needs)
-    (λ c. search needs)
-    (λ c. search needs)
-    (λ c κs. search needs)
-    (λ c. search needs)
-    (λ c. search needs)
-    (λ c. search needs)
-    (λ c. search needs)
-    (λ c κs. search needs)
-    (λ c κs. search needs)
-    (λ c κs. search needs)
-    (λ c. search needs)
-    (λ c. search needs)
-    (λ c. search needs))
+    tie.close (tie.spec Inv-loop μ-loop (λ c. search needs) (λ c. search needs) (λ c. search needs)
+    (λ c. search needs) (λ c. search needs) (λ c. search needs) (search needs) (λ c. search needs) (λ c. search needs)
+    (λ c. search needs) (λ c. search needs) (search needs) (search needs) (search needs) (λ c. search needs)
+    (λ c. search needs) (λ c. search needs))

@@ -4,4 +4,4 @@ use Rattle.drive.proofs.offsets.Offsets.added.Statement.{statement}
 use Rattle.drive.proofs.offsets.Offsets.added.Tie as tie
 
 pub added-spec : {M : Type 1} → statement M
-added-spec = tie.close (tie.spec (λ c κs. search needs) (λ c κs. search needs) (λ c. cc))
+added-spec = tie.close (tie.spec (search needs) (search needs) (λ c. cc))
