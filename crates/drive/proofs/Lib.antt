@@ -1,4 +1,5 @@
 -- What the proofs of the crates above cite.
+pub mod Settles
 pub mod Gates
 pub mod Spin
 -- Of the promises themselves.

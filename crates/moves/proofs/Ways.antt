@@ -1,5 +1,5 @@
 -- How the move of a tick comes about: what each way to choose a move tells of what it is decided by.
-use mathlib.Core.Bool.{Bool, true, false, _&&_, _||_, not, cond}
+use mathlib.Core.Bool.{Bool, _&&_, _||_, not, cond}
 use mathlib.Core.Path.{_≡_}
 use mathlib.Core.List.{List}
 use Prim.Native.Nat.{ℕ, _*_, _≤_, _<_}
@@ -88,35 +88,17 @@ pub data Way (g : Grounds) : State → Move → Type 0 where
   rests : {s : State} → T (not (turning s)) → (T (not (is 5 s)) → T (not (g .tripped))) → Way g s Stay
 
 module _ {g : Grounds} where
-  pub goes-from : {s next : State} → Onward g s next → T (turning s)
-  goes-from (charged done) = tt
-  goes-from (unasked none) = tt
-  goes-from (caught done above) = tt
-  goes-from (slow done below) = tt
-  goes-from (unsensed none) = tt
-  goes-from (sensed done) = tt
-  goes-from (parked done) = tt
-  goes-from (unramped none) = tt
-  goes-from (fast above) = tt
-
-  pub goes-to : {s next : State} → Onward g s next → T (isRun next)
-  goes-to (charged done) = tt
-  goes-to (unasked none) = tt
-  goes-to (caught done above) = tt
-  goes-to (slow done below) = tt
-  goes-to (unsensed none) = tt
-  goes-to (sensed done) = tt
-  goes-to (parked done) = tt
-  goes-to (unramped none) = tt
-  goes-to (fast above) = tt
-
-  pub waits-in : {s : State} → Waits g s → T (turning s)
-  waits-in (charging below) = tt
-  waits-in (catching below) = tt
-  waits-in (sensing below) = tt
-  waits-in (parking below) = tt
-  waits-in (ramping on below) = tt
-  waits-in running = tt
+  -- it goes from one of the six to one that a start leads on to
+  pub goes : {s next : State} → Onward g s next → T (turning s) × T (isRun next)
+  goes (charged done) = (tt, tt)
+  goes (unasked none) = (tt, tt)
+  goes (caught done above) = (tt, tt)
+  goes (slow done below) = (tt, tt)
+  goes (unsensed none) = (tt, tt)
+  goes (sensed done) = (tt, tt)
+  goes (parked done) = (tt, tt)
+  goes (unramped none) = (tt, tt)
+  goes (fast above) = (tt, tt)
 
 module _ (g : Grounds) where
   abbrev s : List ℕ

@@ -1,16 +1,16 @@
 -- A run with room for a line does what stands at the front of its bytes, and the run with fuel for one record does no more.
 use mathlib.Core.Path.{_≡_, _∙_}
-use mathlib.Core.Bool.{Bool, true, false}
+use mathlib.Core.Bool.{Bool, false}
 use mathlib.Core.List.{List, append-nil}
 use Prim.Native.Nat.{ℕ, suc, _+_, _-_, _≤_, _<_}
 use native.Mathlib.Omega.{arith}
-use lib.ListN.{length, drop}
+use lib.ListN.{drop}
 use borrow.Author.Tests.{lt-ltb, le-ltb}
 use Rattle.drive.specs.AnyCall.{Call, reply}
 use Rattle.drive.specs.declared.Drive.{Drive}
 use Rattle.report.specs.Refusals.{lineLength}
 use Rattle.records.specs.Front.{sizeOf, Front, whole, front}
-use Rattle.records.specs.Run.{Outcome, rest, lined, follow, runs}
+use Rattle.records.specs.Run.{rest, lined, follow, runs}
 
 module _ (fuel : ℕ) (closed : Bool) (room : ℕ) (bytes : List ℕ) (d : Drive) where
   pub at-tight : room < lineLength → runs (suc fuel) closed room bytes d ≡ rest d

@@ -5,19 +5,20 @@ use mathlib.Core.Bool.{Bool, true, false, _&&_, cond}
 use mathlib.Core.List.{List, [], _∷_}
 use Prim.Native.Nat.{ℕ, _≤_}
 use native.Mathlib.Omega.{arith}
-use lib.Dec.{T, eqb, leb, leb→le}
+use lib.Dec.{T, leb, leb→le}
 use mir.Facts.{and-yes}
 use Rattle.faults.specs.Word.{bit, any}
 use Rattle.numbers.proofs.Tests.{by-test}
 use Rattle.states.proofs.Every.{every}
 use Rattle.states.specs.States.{numberOf}
 use Rattle.drive.specs.AnyCall.{Call, loads, cycles, ticks, reply as replyTo}
-use Rattle.drive.specs.Answer.{gateOf, gate, liveWord, answer, reply}
+use Rattle.drive.specs.Answer.{gateOf, gate, liveWord, answer}
 use Rattle.verdicts.specs.Table.{Row, told, verdict}
 use Rattle.settings.specs.Rules.{settingRows}
 use Rattle.drive.specs.Refusals.{loadRows, cycleRows, tickRows}
 use Rattle.drive.specs.Calls.{settle, load, cycle, cycled}
 use Rattle.drive.specs.Ticks.{tick, ticked}
+use Rattle.drive.proofs.Settles.{settles}
 use Rattle.drive.specs.declared.Drive.{Drive}
 use Rattle.drive.specs.declared.answer.Reply.{Reply}
 use Rattle.states.specs.declared.State.{State}
@@ -60,11 +61,10 @@ verdict-small (r ∷ rows) all = go (r .holds) (verdict-small rows (parts .1))
 
 settle-printed : (v : Verdict) (next d : Drive) (lent : ℕ) → v .number ≤ 15 → lineLength ≤ lent
     → accepts (settle v next d .answer) lent ≡ true
-settle-printed v next d lent number room = go (eqb (v .number) 0)
-  where
-    go : (b : Bool) → accepts (cond b (reply 0 0 next) (reply (v .number) (v .place) d) .answer) lent ≡ true
-    go true = answer-printed 0 0 next lent (omega arith) room
-    go false = answer-printed (v .number) (v .place) d lent number room
+settle-printed v next d lent number room =
+    settles (λ (r : Reply). accepts (r .answer) lent ≡ true) v next d
+    (λ none. answer-printed 0 0 next lent (omega arith) room)
+    (λ given. answer-printed (v .number) (v .place) d lent number room)
 
 pub reply-printed : (d : Drive) (r : Call) (lent : ℕ) {said : Reply} → said ≡ replyTo d r → lineLength ≤ lent
     → accepts (said .answer) lent ≡ true

@@ -5,7 +5,7 @@ use mathlib.Core.Bool.{Bool, true, false, cond}
 use mathlib.Core.List.{List, [], _∷_, _++_, append-assoc, append-nil, flatten}
 use Prim.Native.Nat.{ℕ, suc, _+_, _-_, _*_, _≤_}
 use native.Mathlib.Omega.{arith}
-use lib.Dec.{T, ltb}
+use lib.Dec.{T}
 use lib.ListN.{length, drop, length-append, length-drop}
 use lib.Seq.{drop-append-le, drop-drop}
 use borrow.Author.Tests.{le-ltb}
@@ -14,7 +14,7 @@ use Rattle.drive.specs.declared.Drive.{Drive}
 use Rattle.report.specs.Refusals.{lineLength}
 use Rattle.report.specs.Line.{line}
 use Rattle.records.specs.Front.{sizeOf, mostHeld, Front, end, unknown, short, whole, front}
-use Rattle.records.specs.Run.{Outcome, rest, onto, follow, runs, run}
+use Rattle.records.specs.Run.{Outcome, onto, follow, runs, run}
 use Rattle.records.specs.Stream.{inputSize, outputSize, openRun, left, stream, answers, inOne, Fit, Each, Roomy}
 use Rattle.records.proofs.AnyFuel.{follow-same, same-run}
 use Rattle.records.proofs.ByFront.{by-front}

@@ -33,7 +33,9 @@ use Rattle.hall.specs.declared.Hall.{Hall}
 use Rattle.drive.specs.declared.offsets.Offsets.{Offsets}
 use Rattle.theorems_reached.specs.Machine.{machine}
 use Rattle.theorems_reached.specs.Reached.{Reached}
-use Rattle.theorems_reached.proofs.Verdicts.{settles, passed, accepted-state}
+use Rattle.verdicts.proofs.Passed.{passed}
+use Rattle.drive.proofs.Settles.{settles}
+use Rattle.theorems_reached.proofs.Loads.{accepted-state}
 use Rattle.theorems_reached.proofs.Keeps.{reached-power-up, cycled-reached, call-keeps}
 use Rattle.theorems_reached.proofs.Corollaries.{disarmed-in-fault, low-excludes-high}
 use Rattle.theorems_demands.specs.Supervised.{words, deadCauseOf, DriveDemand3}

@@ -1,5 +1,5 @@
 -- Demand 1: "Bad input is refused with the number and place in document 01; the drive state and any lent bytes then stand as before."
--- A caller sees the refusal by the number that it is told, so each theorem starts from that. And no cycle and no tick changes a setting.
+-- A caller sees the refusal by the number that it is told, so each theorem starts from that.
 use mathlib.Core.Path.{_≡_, refl}
 use mathlib.Core.Bool.{Bool, true, false}
 use mathlib.Core.List.{List}
@@ -10,44 +10,26 @@ use lib.ListN.{length, drop}
 use lib.Seq.{drop-at}
 use borrow.Author.Tests.{ne-eqb}
 use Rattle.numbers.proofs.Tests.{by-test}
-use Rattle.drive.specs.Answer.{answer, reply as shown}
+use Rattle.drive.specs.Answer.{reply as shown}
 use Rattle.verdicts.specs.Table.{Row, verdict}
 use Rattle.drive.specs.Refusals.{loadRows, cycleRows, tickRows}
 use Rattle.drive.specs.Calls
-use Rattle.drive.specs.Calls.{settle}
 use Rattle.drive.specs.Ticks
 use Rattle.drive.specs.AnyCall.{Call, loads, cycles, ticks, reply}
 use Rattle.drive.specs.declared.Drive.{Drive}
 use Rattle.drive.specs.declared.answer.Answer.{Answer}
-use Rattle.drive.specs.declared.answer.Reply.{Reply}
-use Rattle.fields.specs.declared.Cycle.{Cycle}
-use Rattle.fields.specs.declared.Tick.{Tick}
-use Rattle.motor.specs.declared.Watched.{Watched}
-use Rattle.moves.specs.declared.Move.{Move}
-use Rattle.moves.specs.declared.Move.the-variants.{Stay, Enter, Measure, Clear, Retry}
-use Rattle.verdicts.specs.declared.Verdict.{Verdict}
 use Rattle.report.specs.Refusals.{lineLength, lineVerdict, accepts}
 use Rattle.report.specs.Line.{line, lentAfter}
 use Rattle.report.proofs.Fields.{length-line}
 use Rattle.records.specs.Front.{Front, end, unknown, short, whole, front}
 use Rattle.records.specs.Run.{Outcome, rest, refused, follow, runs, ranOf, outputAfter}
-use Rattle.theorems_reached.proofs.Verdicts.{settles, settled}
+use Rattle.drive.proofs.Settles.{refusal}
 
 -- the table of refusals of a call
 abbrev pub rows : Drive → Call → List Row
 rows d (loads numbers) = loadRows d numbers
 rows d (cycles fields) = cycleRows d fields
 rows d (ticks fields) = tickRows d fields
-
-refusal :
-    (v : Verdict) (next d : Drive)
-    → (settle v next d .answer .number ≡ 0 → ⊥)
-    → settle v next d ≡ shown (v .number) (v .place) d
-unfolding answer
-refusal v next d =
-    settles (λ (r : Reply). (r .answer .number ≡ 0 → ⊥) → r ≡ shown (v .number) (v .place) d) v next d
-    (λ none given. absurd (given refl))
-    (λ refused given. refl)
 
 -- a call that answers another number than 0 leaves the state, and shows it with the number and place of the first row that holds
 pub refused-unchanged :
@@ -99,26 +81,3 @@ unread-unchanged (suc fuel) closed room bytes d none =
     by-test (λ (o : Outcome). (o ≡ rest d) ⊎ (o ≡ refused d)) (ltb room lineLength)
     (λ tight. inl refl)
     (λ wide. unread closed d (front bytes) _ none)
-
--- "The drive state keeps its 24 settings as loaded": no cycle and no tick changes them
-settings-moved :
-    (d : Drive) (t : Tick) (w : Watched) (flags : ℕ) (armed : Bool) (nth : ℕ) (move : Move)
-    → Ticks.moved d t w flags armed nth move .settings ≡ d .settings
-settings-moved d t w flags armed nth Stay = refl
-settings-moved d t w flags armed nth (Enter state) = refl
-settings-moved d t w flags armed nth Measure = refl
-settings-moved d t w flags armed nth Clear = refl
-settings-moved d t w flags armed nth Retry = refl
-
-settled-settings : (v : Verdict) (next d : Drive) → next .settings ≡ d .settings → settle v next d .drive .settings ≡ d .settings
-settled-settings v next d e = settled (λ (after : Drive). after .settings ≡ d .settings) v next d (λ none. e) refl
-
-pub cycle-keeps-settings : (d : Drive) (c : Cycle) → Calls.cycle d c .drive .settings ≡ d .settings
-unfolding Calls.cycle Calls.cycled
-cycle-keeps-settings d c = settled-settings (verdict (cycleRows d c)) (Calls.cycled d c) d refl
-
-pub tick-keeps-settings : (d : Drive) (t : Tick) → Ticks.tick d t .drive .settings ≡ d .settings
-unfolding Ticks.tick Ticks.ticked
-tick-keeps-settings d t =
-    settled-settings (verdict (tickRows d t)) (Ticks.ticked d t) d
-    (settings-moved d t (Ticks.watch d t) (Ticks.raised d t) (Ticks.armedBy d t) (Ticks.nth d) (Ticks.chosen d t))

@@ -23,7 +23,7 @@ use Rattle.drive.specs.Calls.{becomes}
 use Rattle.drive.specs.Ticks.{watch, standing, raised, alight, armedBy, nth, grounds, chosen, moved, ticked}
 use Rattle.drive.specs.AnyCall.{ticks}
 use Rattle.moves.proofs.Ways.{Way, trips, stops, goes-on, calibrates, starts, measures, clears, tries-again, waits, rests as unmoved}
-use Rattle.moves.proofs.Ways.{goes-from, goes-to, way-of}
+use Rattle.moves.proofs.Ways.{goes, way-of}
 use Rattle.drive.specs.declared.Drive.{Drive}
 use Rattle.fields.specs.declared.Tick.{Tick}
 use Rattle.states.specs.declared.State.{State}
@@ -183,9 +183,9 @@ module _ (d : Drive) (t : Tick) (waited : ℕ) where
         (goes-on-by Stop after (apart is-high) (rw (is-true (high settings t) is-high) tt))
         refl
     by-move state (Enter onto) loaded fault late trip apart (goes-on onward no-low calm) =
-        let runs = goes-from onward in
+        let runs = goes onward .0 in
         let after = next state (Enter onto) in
-        let not-first = and-yes (turning onto) (not (is 3 onto)) (goes-to onward) .1 in
+        let not-first = and-yes (turning onto) (not (is 3 onto)) (goes onward .1) .1 in
         let none-begun = runs-on state onto runs not-first in
         passes state after refl refl
         (fails-left (is 3 onto && is 1 state) (high settings t) (fails-left (is 3 onto) (is 1 state) not-first))

@@ -20,7 +20,7 @@ use Rattle.fields.specs.declared.Tick.{Tick}
 use Rattle.states.specs.declared.State.{State}
 use Rattle.theorems_reached.specs.Reached.{RunWithin, AtMost, butHall, Reached}
 use Rattle.numbers.proofs.Tests.{by-test, decide}
-use Rattle.theorems_reached.proofs.Verdicts.{at-most, related-there}
+use Rattle.theorems_reached.proofs.Loads.{at-most, related-there}
 use Rattle.theorems_reached.proofs.Run.{at-rest-within}
 use Rattle.theorems_reached.proofs.Offsets.{samples-small, added-exactly}
 use Rattle.states.proofs.Every.{at-every}

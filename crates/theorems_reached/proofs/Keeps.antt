@@ -29,7 +29,9 @@ use Rattle.theorems_reached.specs.Reached.{Loaded, nineBits, Reached}
 use Rattle.drive.specs.AnyCall.{Call, loads, cycles, ticks, reply}
 use Rattle.theorems_history.specs.Log.{stateAfter}
 use Rattle.theorems_reached.specs.Machine.{machine}
-use Rattle.theorems_reached.proofs.Verdicts.{settled, passed, accepted-settings}
+use Rattle.verdicts.proofs.Passed.{passed}
+use Rattle.drive.proofs.Settles.{settled}
+use Rattle.theorems_reached.proofs.Loads.{accepted-settings}
 use Rattle.theorems_reached.proofs.Hall.{hall-power-up, sampled-within, dead-flagged}
 use Rattle.theorems_reached.proofs.Offsets.{unmeasured-within, summed-in}
 use Rattle.theorems_reached.proofs.Flags.{same-but-hall}

@@ -1,5 +1,5 @@
 -- What other crates cite.
-pub mod Verdicts
+pub mod Loads
 pub mod Hall
 pub mod Run
 pub mod Offsets

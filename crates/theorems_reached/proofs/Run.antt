@@ -23,7 +23,7 @@ use Rattle.states.specs.declared.State.{State}
 use Rattle.states.specs.declared.State.the-variants.{Stop}
 use Rattle.theorems_reached.specs.Reached.{Loaded, RunWithin, RunIn}
 use Rattle.numbers.proofs.Tests.{by-test}
-use Rattle.theorems_reached.proofs.Verdicts.{at-least, at-most}
+use Rattle.theorems_reached.proofs.Loads.{at-least, at-most}
 
 -- ---- the reference
 

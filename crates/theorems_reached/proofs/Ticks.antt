@@ -1,6 +1,6 @@
 -- A tick keeps what holds of reached states, whichever way its move comes about.
 use mathlib.Core.Path.{_≡_, refl, sym, subst}
-use mathlib.Core.Bool.{Bool, true, false, _&&_, _||_, not}
+use mathlib.Core.Bool.{Bool, false, _&&_, _||_, not}
 use mathlib.Core.List.{List}
 use Prim.Native.Nat.{ℕ, _≤_}
 use native.Mathlib.Omega.{arith}
@@ -15,17 +15,15 @@ use Rattle.states.proofs.Groups.{turns, waiting}
 use Rattle.settings.specs.Settings.{FaultEnable, OffsetPsc, RetryLimit, samples}
 use Rattle.fields.specs.declared.Tick.{Tick}
 use Rattle.faults.specs.Word.{bit}
-use Rattle.faults.specs.Exit.{retried}
 use Rattle.faults.proofs.Bits.{new-bit, is-live, old-stays, set-bit, Within, none-within, both-within, together-within}
 use Rattle.motor.specs.Counts.{atRest}
 use Rattle.motor.specs.declared.Run.{Run}
 use Rattle.moves.specs.declared.Move.{Move}
 use Rattle.moves.proofs.Ways.{Way, trips, stops, goes-on, calibrates, starts, measures, clears, tries-again, waits, rests, way-of}
-use Rattle.moves.proofs.Ways.{goes-from, goes-to, waits-in, isRun}
+use Rattle.moves.proofs.Ways.{goes}
 use Rattle.drive.specs.Flags.{alwaysLive, alive}
 use Rattle.drive.specs.Causes.{causeFlags, causes}
 use Rattle.drive.specs.Command.{low}
-use Rattle.drive.specs.Offsets.{measuredBy}
 use Rattle.drive.specs.Ticks.{arrive, entered, stayed, moved, nth, armedBy, watch, standing, raised, alight, grounds, ticked}
 use Rattle.drive.specs.declared.Drive.{Drive}
 use Rattle.drive.specs.declared.offsets.Offsets.{Offsets}
@@ -36,9 +34,6 @@ use Rattle.theorems_reached.proofs.Flags.{calm-but-hall}
 
 module _ (d : Drive) (r : Reached d) (t : Tick) (outside : T (not (is 0 (d .state)))) where
   -- ---- the fault word
-
-  abbrev enabled : Bool
-  enabled = bit 15 (FaultEnable (d .settings))
 
   abbrev flags : List (ℕ × Bool)
   flags = causeFlags (d .settings) (is 4 (d .state)) (d .hall .«dead_streak») t (watch d t)
@@ -210,8 +205,8 @@ module _ (d : Drive) (r : Reached d) (t : Tick) (outside : T (not (is 0 (d .stat
   moved-reached at speed target (stops u held calm) =
       stopped (raised-in Stop (λ v. calm) (λ v. absurd v)) (r .offsets .within) (r .retries)
   moved-reached at speed target (goes-on {next = next} onward quiet calm) =
-      let runs = subst (λ (s : State). T (turning s)) at (goes-from onward) in
-      turned next (and-yes (turning next) (not (is 3 next)) (goes-to onward) .0) speed (r .offsets .measured runs)
+      let runs = subst (λ (s : State). T (turning s)) at (goes onward .0) in
+      turned next (and-yes (turning next) (not (is 3 next)) (goes onward .1) .0) speed (r .offsets .measured runs)
       (λ w. unarmed runs quiet (and-yes (armedBy d t) (not (is 3 next || is 5 next)) w .0))
       calm
   moved-reached at speed target (calibrates unmeasured calm) =

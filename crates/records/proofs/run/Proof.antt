@@ -1,5 +1,5 @@
 -- `run` keeps the whole answer in sight: the lines written so far, and then the run over what is left, are the run over everything.
-use mathlib.Core.Path.{_≡_, ap}
+use mathlib.Core.Path.{ap}
 use Prim.Native.Nat.{_+_, _-_, _≤_}
 use native.Mathlib.Omega.{arith}
 use lib.ListN.{length}

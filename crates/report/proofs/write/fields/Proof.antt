@@ -1,7 +1,7 @@
 -- `fields` puts each field where the one before it ends, so that together they are one run of bytes from the buffer's first.
 use Prim.Native.Nat.{_+_, _≤_}
 use native.Mathlib.Omega.{arith}
-use mathlib.Core.Path.{_≡_, refl, ap, _∙_}
+use mathlib.Core.Path.{refl, ap, _∙_}
 use mathlib.Core.List.{[]}
 use lib.ListN.{length}
 use lib.Seq.{length-sets}

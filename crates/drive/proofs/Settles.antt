@@ -1,0 +1,72 @@
+-- What a call that settles by its verdict replies and leaves: and so no cycle and no tick changes a setting.
+use mathlib.Core.Path.{_≡_, refl}
+use mathlib.Core.Bool.{Bool, false}
+use Prim.Native.Nat.{ℕ}
+use lib.Dec.{eqb}
+use lib.Ieee.Bits.{is-false}
+use mir.Facts.{eqb-yes}
+use Rattle.numbers.proofs.Tests.{by-test}
+use Rattle.verdicts.specs.Table.{verdict}
+use Rattle.verdicts.specs.declared.Verdict.{Verdict}
+use Rattle.fields.specs.declared.Cycle.{Cycle}
+use Rattle.fields.specs.declared.Tick.{Tick}
+use Rattle.motor.specs.declared.Watched.{Watched}
+use Rattle.moves.specs.declared.Move.{Move}
+use Rattle.moves.specs.declared.Move.the-variants.{Stay, Enter, Measure, Clear, Retry}
+use Rattle.drive.specs.Answer.{answer, reply}
+use Rattle.drive.specs.Refusals.{cycleRows, tickRows}
+use Rattle.drive.specs.Calls.{settle, cycled, cycle}
+use Rattle.drive.specs.Ticks.{armedBy, nth, watch, raised, chosen, moved, ticked, tick}
+use Rattle.drive.specs.declared.Drive.{Drive}
+use Rattle.drive.specs.declared.answer.Reply.{Reply}
+
+-- a call that settles by its verdict: what holds of its reply if it is accepted, and if it is refused, holds of it
+pub settles :
+    (P : Reply → Type 0) (v : Verdict) (next left : Drive)
+    → (v .number ≡ 0 → P (reply 0 0 next))
+    → (eqb (v .number) 0 ≡ false → P (reply (v .number) (v .place) left))
+    → P (settle v next left)
+settles P v next left accepted refused =
+    by-test P (eqb (v .number) 0) (λ t. accepted (eqb-yes t)) (λ t. refused (is-false (eqb (v .number) 0) t))
+
+-- so of the state that it leaves
+pub settled :
+    (P : Drive → Type 0) (v : Verdict) (next left : Drive)
+    → (v .number ≡ 0 → P next)
+    → P left
+    → P (settle v next left .drive)
+settled P v next left accepted refused = settles (λ (r : Reply). P (r .drive)) v next left accepted (λ number. refused)
+
+-- a reply with another number than 0 shows the state that the refusal leaves
+pub refusal :
+    (v : Verdict) (next left : Drive)
+    → (settle v next left .answer .number ≡ 0 → ⊥)
+    → settle v next left ≡ reply (v .number) (v .place) left
+unfolding answer
+refusal v next left =
+    settles (λ (r : Reply). (r .answer .number ≡ 0 → ⊥) → r ≡ reply (v .number) (v .place) left) v next left
+    (λ none given. absurd (given refl))
+    (λ refused given. refl)
+
+-- "The drive state keeps its 24 settings as loaded": no cycle and no tick changes them
+settings-moved :
+    (d : Drive) (t : Tick) (w : Watched) (flags : ℕ) (armed : Bool) (nth : ℕ) (move : Move)
+    → moved d t w flags armed nth move .settings ≡ d .settings
+settings-moved d t w flags armed nth Stay = refl
+settings-moved d t w flags armed nth (Enter state) = refl
+settings-moved d t w flags armed nth Measure = refl
+settings-moved d t w flags armed nth Clear = refl
+settings-moved d t w flags armed nth Retry = refl
+
+settled-settings : (v : Verdict) (next d : Drive) → next .settings ≡ d .settings → settle v next d .drive .settings ≡ d .settings
+settled-settings v next d e = settled (λ (after : Drive). after .settings ≡ d .settings) v next d (λ none. e) refl
+
+pub cycle-keeps-settings : (d : Drive) (c : Cycle) → cycle d c .drive .settings ≡ d .settings
+unfolding cycle cycled
+cycle-keeps-settings d c = settled-settings (verdict (cycleRows d c)) (cycled d c) d refl
+
+pub tick-keeps-settings : (d : Drive) (t : Tick) → tick d t .drive .settings ≡ d .settings
+unfolding tick ticked
+tick-keeps-settings d t =
+    settled-settings (verdict (tickRows d t)) (ticked d t) d
+    (settings-moved d t (watch d t) (raised d t) (armedBy d t) (nth d) (chosen d t))
