@@ -1,6 +1,6 @@
 -- Document 01, "Causes": which of them stand at a tick, and the word of their flags.
 use Prim.Native.Nat.{ℕ}
-use mathlib.Core.Bool.{Bool, _&&_}
+use mathlib.Core.Bool.{Bool, true, _&&_}
 use mathlib.Core.List.{List, [], _∷_}
 use lib.Dec.{eqb, ltb}
 use Rattle.faults.specs.Word.{together}
@@ -22,6 +22,12 @@ causeFlags s running deadStreak t w =
     ∷ (14, running && w .timeout)
     ∷ (15, eqb deadStreak 2)
     ∷ []
+
+-- the bits that a cause or a sample ever sets, the same nine
+abbrev pub causeBits : ℕ
+causeBits =
+    together
+    ((0, true) ∷ (1, true) ∷ (2, true) ∷ (3, true) ∷ (4, true) ∷ (6, true) ∷ (7, true) ∷ (14, true) ∷ (15, true) ∷ [])
 
 unfoldable pub causes : (settings : List ℕ) (running : Bool) (deadStreak : ℕ) → Tick → Watched → ℕ
 causes s running deadStreak t w = together (causeFlags s running deadStreak t w)

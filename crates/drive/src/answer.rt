@@ -1,6 +1,6 @@
 // What a call answers.
 use crate::Drive;
-use crate::flags::alive;
+use crate::causes::alive;
 use crate::offsets::Pair;
 use states::State;
 use verdicts::Verdict;

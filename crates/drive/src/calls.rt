@@ -2,16 +2,14 @@
 use crate::Drive;
 use crate::answer::Reply;
 use crate::answer::settle;
-use crate::flags::HALL_PATTERN;
+use crate::causes::HALL_PATTERN;
+use crate::fresh;
 use crate::offsets::Offsets;
-use crate::offsets::UNMEASURED;
 use crate::offsets::pick_offsets;
 use crate::refusals::awake;
 use crate::refusals::loadable;
 use faults::flag;
 use fields::Cycle;
-use hall::POWERED_UP;
-use motor::AT_REST;
 use numbers::count_up;
 use numbers::signed;
 use settings::HALL_ANGLE_OFFSET;
@@ -23,27 +21,10 @@ use verdicts::Verdict;
 ghost use mathlib.Core.Path.{_≡_};
 ghost use lib.ListN.{length};
 ghost use Rattle.settings.specs.Settings.{settingCount};
-ghost use Rattle.drive.specs.Calls.{fresh, powerUp, load, summed, cycled, cycle};
+ghost use Rattle.drive.specs.Calls.{powerUp, load, summed, cycled, cycle};
 
 // The highest pattern of three Hall sensors.
 const HIGHEST_PATTERN: u8 = 7;
-
-fn fresh(state: State, settings: [u16; SETTING_COUNT]) -> Drive
-    ensures { λ r. ⌜ r ≡ fresh state settings ⌝ }
-{
-    Drive {
-        state,
-        settings,
-        hall: POWERED_UP,
-        flags: 0,
-        cycles: 0,
-        ticks: 0,
-        offsets: UNMEASURED,
-        run: AT_REST,
-        armed: false,
-        retries: 0,
-    }
-}
 
 // The numbers of a load as the array that the state keeps.
 fn copied(numbers: &[u16]) -> [u16; SETTING_COUNT]

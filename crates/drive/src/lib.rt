@@ -3,16 +3,20 @@ pub mod answer;
 mod calls;
 mod causes;
 mod command;
-mod flags;
 pub mod offsets;
 mod refusals;
 mod ticks;
 
 use hall::Hall;
+use hall::POWERED_UP;
+use motor::AT_REST;
 use motor::Run;
 use offsets::Offsets;
+use offsets::UNMEASURED;
 use settings::SETTING_COUNT;
 use states::State;
+ghost use mathlib.Core.Path.{_≡_};
+ghost use Rattle.drive.specs.Calls.{fresh};
 
 // The state of the drive. Its 24 settings stand as loaded; no cycle and no tick changes them.
 pub struct Drive {
@@ -26,4 +30,22 @@ pub struct Drive {
     pub run: Run,
     pub armed: bool,
     pub retries: u32,
+}
+
+// Everything as at power-up, but state and settings.
+pub(crate) fn fresh(state: State, settings: [u16; SETTING_COUNT]) -> Drive
+    ensures { λ r. ⌜ r ≡ fresh state settings ⌝ }
+{
+    Drive {
+        state,
+        settings,
+        hall: POWERED_UP,
+        flags: 0,
+        cycles: 0,
+        ticks: 0,
+        offsets: UNMEASURED,
+        run: AT_REST,
+        armed: false,
+        retries: 0,
+    }
 }

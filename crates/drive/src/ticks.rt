@@ -2,10 +2,10 @@
 use crate::Drive;
 use crate::answer::Reply;
 use crate::answer::settle;
+use crate::causes::alive;
 use crate::causes::causes;
 use crate::command::high;
 use crate::command::low;
-use crate::flags::alive;
 use crate::offsets::Offsets;
 use crate::offsets::pick_offsets;
 use crate::refusals::awake;

@@ -25,12 +25,24 @@ lowest = map (λ (r : ℕ × ℕ). r .0) ranges
 abbrev pub highest : List ℕ
 highest = map (λ (r : ℕ × ℕ). r .1) ranges
 
--- "4 VdcLvLevel .. below setting 3"; "5 CriticalOvLevel .. not below setting 3"; "22 CmdStop .. below setting 21"
+-- "4 VdcLvLevel .. below setting 3"
+abbrev pub levelsApart : ℕ → ℕ → Bool
+levelsApart lower upper = ltb lower upper
+
+-- "5 CriticalOvLevel .. not below setting 3"
+abbrev pub criticalAbove : ℕ → ℕ → Bool
+criticalAbove upper critical = leb upper critical
+
+-- "22 CmdStop .. below setting 21"
+abbrev pub stopBelow : ℕ → ℕ → Bool
+stopBelow stop start = ltb stop start
+
+-- the relation of the setting at this place to others
 abbrev pub related : List ℕ → ℕ → Bool
 related s place =
-    cond (eqb place 4) (ltb (VdcLvLevel s) (VdcOvLevel s))
-    (cond (eqb place 5) (leb (VdcOvLevel s) (CriticalOvLevel s))
-    (cond (eqb place 22) (ltb (CmdStop s) (CmdStart s)) true))
+    cond (eqb place 4) (levelsApart (VdcLvLevel s) (VdcOvLevel s))
+    (cond (eqb place 5) (criticalAbove (VdcOvLevel s) (CriticalOvLevel s))
+    (cond (eqb place 22) (stopBelow (CmdStop s) (CmdStart s)) true))
 
 -- the setting at this index, from 0, keeps its rule
 abbrev pub rule : List ℕ → ℕ → Bool

@@ -5,7 +5,7 @@ ghost use mathlib.Core.Path.{_≡_};
 ghost use Prim.Native.Nat.{_<_};
 ghost use Rattle.verdicts.specs.Table.{verdict};
 ghost use Rattle.settings.specs.Settings.{settingCount, samples};
-ghost use Rattle.settings.specs.Rules.{related, rule, settingRows};
+ghost use Rattle.settings.specs.Rules.{levelsApart, criticalAbove, stopBelow, related, rule, settingRows};
 
 pub const SETTING_COUNT: usize = 24;
 
@@ -113,14 +113,33 @@ const HIGHEST: [u16; SETTING_COUNT] = [
     100, // RetryLimit
 ];
 
+// What a setting is to another one. Each relation is a function of the two numbers, so that a changed one touches no other.
+fn levels_apart(lower: u16, upper: u16) -> bool
+    ensures { λ r. ⌜ r ≡ levelsApart lower upper ⌝ }
+{
+    lower < upper
+}
+
+fn critical_above(upper: u16, critical: u16) -> bool
+    ensures { λ r. ⌜ r ≡ criticalAbove upper critical ⌝ }
+{
+    upper <= critical
+}
+
+fn stop_below(stop: u16, start: u16) -> bool
+    ensures { λ r. ⌜ r ≡ stopBelow stop start ⌝ }
+{
+    stop < start
+}
+
 // Whether the setting at this place, from 1, stands to others as its rule says.
 fn related(settings: [u16; SETTING_COUNT], place: usize) -> bool
     ensures { λ r. ⌜ r ≡ related settings place ⌝ }
 {
     match place {
-        4 => settings[VDC_LV_LEVEL] < settings[VDC_OV_LEVEL],
-        5 => settings[VDC_OV_LEVEL] <= settings[CRITICAL_OV_LEVEL],
-        22 => settings[CMD_STOP] < settings[CMD_START],
+        4 => levels_apart(settings[VDC_LV_LEVEL], settings[VDC_OV_LEVEL]),
+        5 => critical_above(settings[VDC_OV_LEVEL], settings[CRITICAL_OV_LEVEL]),
+        22 => stop_below(settings[CMD_STOP], settings[CMD_START]),
         _ => true,
     }
 }

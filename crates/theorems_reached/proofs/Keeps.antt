@@ -17,6 +17,7 @@ use Rattle.settings.specs.Settings.{settingCount, FaultEnable, HallAngleOffset}
 use Rattle.verdicts.specs.Table.{verdict}
 use Rattle.drive.specs.Refusals.{loadRows, cycleRows, tickRows}
 use Rattle.drive.specs.Flags.{alwaysLive}
+use Rattle.drive.specs.Causes.{causeBits}
 use Rattle.drive.specs.Calls as Calls
 use Rattle.drive.specs.Calls.{powerUp, fresh, sample, cycled}
 use Rattle.drive.specs.Ticks as Ticks
@@ -25,7 +26,7 @@ use Rattle.drive.specs.declared.Drive.{Drive}
 use Rattle.fields.specs.declared.Cycle.{Cycle}
 use Rattle.fields.specs.declared.Tick.{Tick}
 use Rattle.states.specs.declared.State.the-variants.{Idle, Stop}
-use Rattle.theorems_reached.specs.Reached.{Loaded, nineBits, Reached}
+use Rattle.theorems_reached.specs.Reached.{Loaded, Reached}
 use Rattle.drive.specs.AnyCall.{Call, loads, cycles, ticks, reply}
 use Rattle.theorems_history.specs.Log.{stateAfter}
 use Rattle.theorems_reached.specs.Machine.{machine}
@@ -67,7 +68,7 @@ fresh-reached s numbers first idle loaded =
       armed = λ t. absurd t;
       flags =
           record {
-            known = none-within nineBits;
+            known = none-within causeBits;
             quiet = λ t. tt;
             tripped = λ t. absurd (T-not (is 5 s) t safe);
             dead = λ live two. absurd (omega arith);
@@ -107,7 +108,7 @@ cycled-reached d c r outside first second =
       armed = r .armed;
       flags =
           record {
-            known = both-within nineBits (d .flags) _ (r .flags .known) (flag-within nineBits 15 (sample d c .flagged) tt);
+            known = both-within causeBits (d .flags) _ (r .flags .known) (flag-within causeBits 15 (sample d c .flagged) tt);
             quiet = λ t. rw (same-but-hall (d .settings) (d .flags) (sample d c .flagged)) (r .flags .quiet t);
             tripped = λ t. old-stays alwaysLive (FaultEnable (d .settings)) (d .flags) _ (r .flags .tripped t);
             dead = λ live two.

@@ -22,12 +22,12 @@ use Rattle.moves.specs.declared.Move.{Move}
 use Rattle.moves.proofs.Ways.{Way, trips, stops, goes-on, calibrates, starts, measures, clears, tries-again, waits, rests, way-of}
 use Rattle.moves.proofs.Ways.{goes}
 use Rattle.drive.specs.Flags.{alwaysLive, alive}
-use Rattle.drive.specs.Causes.{causeFlags, causes}
+use Rattle.drive.specs.Causes.{causeFlags, causeBits, causes}
 use Rattle.drive.specs.Command.{low}
 use Rattle.drive.specs.Ticks.{arrive, entered, stayed, moved, nth, armedBy, watch, standing, raised, alight, grounds, ticked}
 use Rattle.drive.specs.declared.Drive.{Drive}
 use Rattle.drive.specs.declared.offsets.Offsets.{Offsets}
-use Rattle.theorems_reached.specs.Reached.{nineBits, RunIn, OffsetsWithin, OffsetsIn, FlagsIn, Reached}
+use Rattle.theorems_reached.specs.Reached.{RunIn, OffsetsWithin, OffsetsIn, FlagsIn, Reached}
 use Rattle.theorems_reached.proofs.Run.{rests-in-stop, entered-in, stayed-in}
 use Rattle.theorems_reached.proofs.Offsets.{cleared-within, measured-within}
 use Rattle.theorems_reached.proofs.Flags.{calm-but-hall}
@@ -43,9 +43,9 @@ module _ (d : Drive) (r : Reached d) (t : Tick) (outside : T (not (is 0 (d .stat
   unfolding causes
   dead-stands two = set-bit 15 flags (or-left (eqb (d .hall .«dead_streak») 2) false (yes-eqb two))
 
-  standing-known : Within nineBits (standing d t)
+  standing-known : Within causeBits (standing d t)
   unfolding causes
-  standing-known = together-within nineBits flags tt
+  standing-known = together-within causeBits flags tt
 
   -- the flags that the tick leaves where it clears none: live ones in FAULT alone
   raised-in :
@@ -55,7 +55,7 @@ module _ (d : Drive) (r : Reached d) (t : Tick) (outside : T (not (is 0 (d .stat
       → FlagsIn s (d .settings) (d .hall .«dead_streak») (raised d t)
   raised-in s calm tripped =
       record {
-        known = both-within nineBits (d .flags) (standing d t) (r .flags .known) standing-known;
+        known = both-within causeBits (d .flags) (standing d t) (r .flags .known) standing-known;
         quiet = λ u. calm-but-hall (alive (d .settings) (raised d t)) (calm u);
         tripped = tripped;
         dead = λ live two. new-bit 15 (d .flags) (standing d t) (dead-stands two);
@@ -65,7 +65,7 @@ module _ (d : Drive) (r : Reached d) (t : Tick) (outside : T (not (is 0 (d .stat
   cleared-in : T (not (alight d (standing d t))) → FlagsIn Stop (d .settings) (d .hall .«dead_streak») 0
   cleared-in free =
       record {
-        known = none-within nineBits;
+        known = none-within causeBits;
         quiet = λ u. tt;
         tripped = λ u. absurd u;
         dead = λ live two.

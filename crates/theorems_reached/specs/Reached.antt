@@ -1,6 +1,6 @@
 -- What holds of every drive state that a sequence of calls from power-up reaches.
 use mathlib.Core.Path.{_≡_}
-use mathlib.Core.Bool.{true, _||_, not}
+use mathlib.Core.Bool.{_||_, not}
 use mathlib.Core.List.{List}
 use Prim.Native.Nat.{ℕ, _*_, _%_, _^_, _≤_, _<_}
 use lib.Dec.{T}
@@ -16,8 +16,9 @@ use Rattle.states.specs.States.{is, turning}
 use Rattle.states.specs.declared.State.{State}
 use Rattle.settings.specs.Settings.{settingCount, samples, FaultEnable, FluxFaultTime, RotorLockTime, HallTimeoutPeriod}
 use Rattle.settings.specs.Settings.{OffsetPsc, RetryLimit}
-use Rattle.faults.specs.Word.{bit, flag, _or_, any}
+use Rattle.faults.specs.Word.{bit, any}
 use Rattle.drive.specs.Flags.{alive}
+use Rattle.drive.specs.Causes.{causeBits}
 use Rattle.drive.specs.Offsets.{zero}
 use Rattle.motor.specs.Counts as Runs
 use Rattle.settings.specs.Rules.{rule}
@@ -91,18 +92,13 @@ pub record OffsetsIn (state : State) (n cycles : ℕ) (offsets : Offsets) : Type
   pub measuring : T (is 2 state) → T (not (offsets .measured))
   pub measured : T (turning state) → T (offsets .measured)
 
--- the nine bits that a cause or a sample sets
-abbrev pub nineBits : ℕ
-nineBits =
-    flag 0 true or flag 1 true or flag 2 true or flag 3 true or flag 4 true or flag 6 true or flag 7 true or flag 14 true or flag 15 true
-
 -- the bits below 15: flag 15 is the one that a cycle sets
 abbrev pub butHall : ℕ → ℕ
 butHall word = word % 2 ^ 15
 
 -- the fault word by the state
 pub record FlagsIn (state : State) (settings : List ℕ) (deadStreak flags : ℕ) : Type 0 where
-  pub known : (k : ℕ) → T (bit k flags) → T (bit k nineBits)
+  pub known : (k : ℕ) → T (bit k flags) → T (bit k causeBits)
   -- "Outside FAULT, any live flag moves to FAULT": of the live ones only flag 15 waits for a tick
   pub quiet : T (not (is 5 state)) → T (not (any (butHall (alive settings flags))))
   -- FAULT is entered with a live flag, and the flags "stay until cleared"

@@ -12,7 +12,8 @@ returns-4 c =
 pub related-spec : {M : Type 1} → statement M
 related-spec =
     tie.close (tie.spec (search needs) (search needs) (search needs) (search needs) (search needs) (search needs)
-    (λ c. simp (c .match .keys1))
-    (λ c. simp (c .match .keys2))
-    (λ c. simp (c .match .keys3))
+    (search needs) (search needs) (search needs)
+    (λ c. simp (c .before .match .keys1, c .levels-apart .ensures))
+    (λ c. simp (c .before .match .keys2, c .critical-above .ensures))
+    (λ c. simp (c .before .match .keys3, c .stop-below .ensures))
     returns-4)
