@@ -32,6 +32,20 @@ pub struct Drive {
     pub retries: u32,
 }
 
+// All zero, in IDLE.
+pub(crate) const POWER_UP: Drive = Drive {
+    state: State::Idle,
+    settings: [0u16; SETTING_COUNT],
+    hall: POWERED_UP,
+    flags: 0,
+    cycles: 0,
+    ticks: 0,
+    offsets: UNMEASURED,
+    run: AT_REST,
+    armed: false,
+    retries: 0,
+};
+
 // Everything as at power-up, but state and settings.
 pub(crate) fn fresh(state: State, settings: [u16; SETTING_COUNT]) -> Drive
     ensures { λ r. ⌜ r ≡ fresh state settings ⌝ }
@@ -39,13 +53,6 @@ pub(crate) fn fresh(state: State, settings: [u16; SETTING_COUNT]) -> Drive
     Drive {
         state,
         settings,
-        hall: POWERED_UP,
-        flags: 0,
-        cycles: 0,
-        ticks: 0,
-        offsets: UNMEASURED,
-        run: AT_REST,
-        armed: false,
-        retries: 0,
+        ..POWER_UP
     }
 }

@@ -18,7 +18,7 @@ use Rattle.hall.specs.declared.fate.Kept.the-variants.{Pattern}
 use Rattle.states.specs.declared.State.the-variants.{Stop, Fault}
 use Rattle.motor.specs.Counts.{atRest}
 use Rattle.drive.specs.Offsets.{zero as zeroes}
-use Rattle.drive.specs.Calls.{fresh, becomes}
+use Rattle.drive.specs.Calls.{becomes}
 use Rattle.drive.specs.declared.Drive.{Drive}
 use Rattle.theorems_reached.specs.Machine.{machine}
 use Rattle.theorems_demands.proofs.Computes.{computes}
@@ -36,7 +36,7 @@ turns-by-command = refl
 -- the tripped drive at its n-th tick in FAULT, written out (flag 2 alone is the word 4), and what the onlooker remembers then
 abbrev faulted : ℕ → Drive
 faulted n =
-    becomes (fresh Fault (settingsWith 1 0)) Fault
+    becomes (stateAfter machine tripped) Fault
     (record { kept = Pattern 1; position = 0; angle = negsuc 5461; «dead_streak» = 0; «stray_streak» = 0; «still_count» = 66 })
     4 0 n
     (record { measured = true; value = zeroes; sum = zeroes })
@@ -76,15 +76,15 @@ module _ (n : ℕ) (small : n ≤ 9998) where
   early = lt-leb 10000 (min (n + 1) 65535) (omega arith)
 
   waits : reply (faulted n) high .drive ≡ faulted (suc n)
-  unfolding computes
+  unfolding stateAfter computes
   waits = let counted : min (n + 1) 65535 ≡ suc n = omega arith in rw (early, counted)
 
   waits-noted : note words (recalled n) (entry machine (faulted n) high) ≡ waiting
-  unfolding computes
+  unfolding stateAfter computes
   waits-noted = let early-too : leb 10000 (suc n) ≡ false = lt-leb 10000 (suc n) (omega arith) in rw (early, early-too)
 
   waits-recalled : remember words (recalled n) (entry machine (faulted n) high) ≡ recalled (suc n)
-  unfolding computes
+  unfolding stateAfter computes
   waits-recalled = rw early
 
 -- n ticks of the wait: the drive, what he remembers, and his notes
@@ -152,7 +152,7 @@ on-the-page : (past : List Seen)
     → length past ≡ 10077
     → page (two-more (faulted 9999) (recalled 9999) past)
     ≡ (page past ++ ((10078, retry) ∷ [])) ++ ((10079, start) ∷ (10079, turns) ∷ [])
-unfolding page computes
+unfolding stateAfter page computes
 on-the-page past rests many = rw (rests, many)
 
 up-to-the-trip : page (noted tripped)
@@ -183,11 +183,11 @@ abbrev stopped : ℕ → Drive
 stopped n = becomes (faulted 0) Stop (faulted 0 .hall) 0 0 n (faulted 0 .offsets) (faulted 0 .run) false 0
 
 clears : reply (faulted 0) clear .drive ≡ stopped 0
-unfolding computes
+unfolding stateAfter computes
 clears = refl
 
 stays : (n : ℕ) → reply (stopped n) high .drive ≡ stopped (up 65535 n)
-unfolding computes
+unfolding stateAfter computes
 stays n = refl
 
 abbrev counted : ℕ → ℕ
@@ -200,11 +200,11 @@ stays-all zero = ap (λ (d : Drive). reply d clear .drive) is-faulted ∙ clears
 stays-all (suc n) = ap (λ (d : Drive). reply d high .drive) (stays-all n) ∙ stays (counted n)
 
 clear-rests : words .turns (machine .answer (faulted 0) clear) ≡ false
-unfolding computes
+unfolding stateAfter computes
 clear-rests = refl
 
 high-rests : (n : ℕ) → words .turns (machine .answer (stopped n) high) ≡ false
-unfolding computes
+unfolding stateAfter computes
 high-rests n = refl
 
 -- A command held high after a clear starts nothing, however long it is held.

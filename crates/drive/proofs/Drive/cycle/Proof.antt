@@ -6,4 +6,6 @@ use Rattle.drive.proofs.Drive.cycle.Tie as tie
 
 pub cycle-spec : {M : Type 1} → statement M
 unfolding cycle
-cycle-spec = tie.close (tie.spec (search needs) (search needs) (search needs) (search needs) (λ c. cc))
+cycle-spec =
+    tie.close (tie.spec (search needs) (search needs) (search needs) (search needs)
+    (λ c. rw (c .settle .ensures, c .before .cycled .ensures, c .before .before .awake .ensures, c .before .before .before .verdict .ensures)))

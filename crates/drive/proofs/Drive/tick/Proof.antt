@@ -6,4 +6,6 @@ use Rattle.drive.proofs.Drive.tick.Tie as tie
 
 pub tick-spec : {M : Type 1} → statement M
 unfolding tick
-tick-spec = tie.close (tie.spec (search needs) (search needs) (search needs) (search needs) (λ c. cc))
+tick-spec =
+    tie.close (tie.spec (search needs) (search needs) (search needs) (search needs)
+    (λ c. rw (c .settle .ensures, c .before .ticked .ensures, c .before .before .awake .ensures, c .before .before .before .verdict .ensures)))

@@ -4,4 +4,4 @@ use Rattle.drive.proofs.answer.replied.Statement.{statement}
 use Rattle.drive.proofs.answer.replied.Tie as tie
 
 pub replied-spec : {M : Type 1} → statement M
-replied-spec = tie.close (tie.spec (search needs) (λ c. cc))
+replied-spec = tie.close (tie.spec (search needs) (λ c. rw (c .answered .ensures)))

@@ -4,4 +4,6 @@ use Rattle.drive.proofs.refusals.loadable.Statement.{statement}
 use Rattle.drive.proofs.refusals.loadable.Tie as tie
 
 pub loadable-spec : {M : Type 1} → statement M
-loadable-spec = tie.close (tie.spec (search needs) (search needs) (λ c. cc))
+loadable-spec =
+    tie.close (tie.spec (search needs) (search needs)
+    (λ c. rw (c .first .ensures, c .before .number .ensures)))
