@@ -9,7 +9,14 @@ use Rattle.drive.proofs.Drive.cycled.Tie as tie
 returns : tie.Need-returns
 unfolding cycled
 returns c =
-    cc (toZ-ofZ {w = w16} {z = c .before .before .before .before .before .before .before .before .signed .result} (search needs))
+    rw (
+      c .before .before .summed .ensures,
+      c .before .before .before .count-up .ensures,
+      c .before .before .before .before .before .flag .ensures,
+      c .before .before .before .before .before .before .before .sampled .ensures,
+      toZ-ofZ {w = w16} {z = c .before .before .before .before .before .before .before .before .signed .result} (search needs),
+      c .before .before .before .before .before .before .before .before .signed .ensures,
+    )
 
 pub cycled-spec : {M : Type 1} → statement M
 cycled-spec =

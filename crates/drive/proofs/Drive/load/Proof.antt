@@ -28,4 +28,4 @@ returns-2 c =
 
 pub load-spec : {M : Type 1} → statement M
 unfolding load
-load-spec = tie.close (tie.spec (search needs) (search needs) (λ c. cc) (search needs) (search needs) returns-2)
+load-spec = tie.close (tie.spec (search needs) (search needs) (λ c. rw (c .load-settings .ensures, c .before .copied .ensures)) (search needs) (search needs) returns-2)

@@ -6,4 +6,4 @@ use Rattle.drive.proofs.Drive.retried_trip.Tie as tie
 pub retried-trip-spec : {M : Type 1} → statement M
 retried-trip-spec =
     tie.close (tie.spec (λ c. search needs) (λ c. search needs) (search needs) (search needs)
-    (λ c. cc))
+    (λ c. rw (c .arrive .ensures, c .before .retried .ensures)))

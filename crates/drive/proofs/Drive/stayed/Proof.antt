@@ -4,4 +4,4 @@ use Rattle.drive.proofs.Drive.stayed.Statement.{statement}
 use Rattle.drive.proofs.Drive.stayed.Tie as tie
 
 pub stayed-spec : {M : Type 1} → statement M
-stayed-spec = tie.close (tie.spec (search needs) (search needs) (λ c. cc))
+stayed-spec = tie.close (tie.spec (search needs) (search needs) (λ c. rw (c .before .before .before .after .ensures, c .before .before .before .before .number .ensures)))

@@ -6,4 +6,4 @@ use Rattle.drive.proofs.Drive.summed.Tie as tie
 pub summed-spec : {M : Type 1} → statement M
 summed-spec =
     tie.close (tie.spec (search needs) (search needs) (search needs) (search needs) (search needs)
-    (λ c. cc))
+    (λ c. rw (c .pick-offsets .ensures, c .before .added .ensures, c .before .before .before .samples .ensures, c .before .before .before .before .number .ensures)))

@@ -10,10 +10,14 @@ returns : tie.Need-returns
 unfolding answer
 returns c =
     let drive = c .before .before .before .before .before .before .before .before .before .args .drive in
-    cc (
+    rw (
       toZ-ofZ {w = w16} {z = c .before .reported .result} (search needs),
+      c .before .reported .ensures,
       toZ-ofZ {w = w32} {z = drive .run .reference} (search needs),
       toZ-ofZ {w = w16} {z = drive .hall .angle} (search needs),
+      c .before .before .before .gate .ensures,
+      c .before .before .before .before .number .ensures,
+      c .before .before .before .before .before .alive .ensures,
     )
 
 pub answered-spec : {M : Type 1} → statement M
