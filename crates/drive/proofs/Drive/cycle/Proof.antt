@@ -4,8 +4,16 @@ use Rattle.drive.specs.Calls.{cycle}
 use Rattle.drive.proofs.Drive.cycle.Statement.{statement}
 use Rattle.drive.proofs.Drive.cycle.Tie as tie
 
-pub cycle-spec : {M : Type 1} → statement M
+returns : tie.Need-returns
 unfolding cycle
+returns c =
+    rw (
+      c .settle .ensures,
+      c .before .cycled .ensures,
+      c .before .before .awake .ensures,
+      c .before .before .before .verdict .ensures,
+    )
+
+pub cycle-spec : {M : Type 1} → statement M
 cycle-spec =
-    tie.close (tie.spec (search needs) (search needs) (search needs) (search needs)
-    (λ c. rw (c .settle .ensures, c .before .cycled .ensures, c .before .before .awake .ensures, c .before .before .before .verdict .ensures)))
+    tie.close (tie.spec (search needs) (search needs) (search needs) (search needs) returns)

@@ -26,6 +26,10 @@ returns-2 c =
     rw (c .settle .ensures, c .before .loadable .ensures, ne-eqb _ 24 (c .before .before .if1 .left))
     (refuses (not (is 0 (d .state) || is 1 (d .state))) (fresh Stop numbers) d)
 
+returns : tie.Need-returns
+unfolding load
+returns c = rw (c .load-settings .ensures, c .before .copied .ensures)
+
 pub load-spec : {M : Type 1} → statement M
 unfolding load
-load-spec = tie.close (tie.spec (search needs) (search needs) (λ c. rw (c .load-settings .ensures, c .before .copied .ensures)) (search needs) (search needs) returns-2)
+load-spec = tie.close (tie.spec (search needs) (search needs) returns (search needs) (search needs) returns-2)
