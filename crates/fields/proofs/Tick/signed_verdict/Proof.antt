@@ -9,7 +9,13 @@ returns : tie.Need-returns
 returns c =
     let tick = c .before .before .before .before .before .before .before .before .before .args .self in
     let signed = c .before .before .before .before .before .before .before .before .struct-told .given .1 .1 .1 .1 .1 .1 .1 .1 in
-    cc (
+    rw (
+      c .first3 .ensures,
+      c .before .absolute3 .ensures,
+      c .before .before .before .first2 .ensures,
+      c .before .before .before .before .absolute2 .ensures,
+      c .before .before .before .before .before .before .first .ensures,
+      c .before .before .before .before .before .before .before .absolute .ensures,
       toZ-ofZ {w = w16} {z = tick .«trq_ref»} (search (needs, signed .0)),
       toZ-ofZ {w = w16} {z = tick .speed} (search (needs, signed .1 .0)),
       toZ-ofZ {w = w16} {z = tick .target} (search (needs, signed .1 .1 .0)),

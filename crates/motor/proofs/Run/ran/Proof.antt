@@ -7,8 +7,9 @@ use Rattle.motor.proofs.Run.ran.Tie as tie
 
 returns : tie.Need-returns
 returns c =
-    cc (
+    rw (
       toZ-ofZ {w = w32} {z = c .ramped .result} (search needs),
+      c .ramped .ensures,
       toZ-ofZ {w = w32} {z = c .before .before .before .args .self .reference} (search needs),
     )
 

@@ -4,13 +4,22 @@ use Rattle.motor.specs.Counts.{watched}
 use Rattle.motor.proofs.Run.watched.Statement.{statement}
 use Rattle.motor.proofs.Run.watched.Tie as tie
 
--- `cc` looks only so far back: the two names bring near what the first calls ensure
 returns : tie.Need-returns
 unfolding watched
 returns c =
-    let slots = c .before .before .before .before .before in
-    let limits = slots .before .before .before in
-    cc
+    rw (
+      c .lasts2 .ensures,
+      c .before .lasts .ensures,
+      c .before .before .flux-stands .ensures,
+      c .before .before .before .lasting2 .ensures,
+      c .before .before .before .before .lasting .ensures,
+      c .before .before .before .before .before .next .ensures,
+      c .before .before .before .before .before .before .before .ten-times2 .ensures,
+      c .before .before .before .before .before .before .before .before .locked .ensures,
+      c .before .before .before .before .before .before .before .before .before .ten-times .ensures,
+      c .before .before .before .before .before .before .before .before .before .before .bad-flux .ensures,
+      c .before .before .before .before .before .before .before .before .before .before .before .slot-length .ensures,
+    )
 
 pub watched-spec : {M : Type 1} → statement M
 watched-spec =

@@ -8,8 +8,10 @@ use Rattle.motor.proofs.counts.locked.Tie as tie
 returns : tie.Need-returns
 returns c =
     let tick = c .before .before .before .before .args .tick in
-    cc (
+    rw (
+      c .absolute2 .ensures,
       toZ-ofZ {w = w16} {z = tick .speed} (search needs),
+      c .before .before .absolute .ensures,
       toZ-ofZ {w = w16} {z = tick .«trq_ref»} (search needs),
     )
 

@@ -10,9 +10,11 @@ times-2048-requires c κs = rw (toZ-ofZ {w = w32} {z = c .target .result} (searc
 
 returns : tie.Need-returns
 returns c =
-    cc (
+    rw (
       toZ-ofZ {w = w32} {z = c .toward .result} (search needs),
+      c .toward .ensures,
       toZ-ofZ {w = w32} {z = c .before .times-2048 .result} (search needs),
+      c .before .times-2048 .ensures,
       toZ-ofZ {w = w32} {z = c .before .before .target .result} (search needs),
       c .before .before .target .ensures .0,
       toZ-ofZ {w = w32} {z = c .before .before .before .args .reference} (search needs),
