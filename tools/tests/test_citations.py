@@ -45,7 +45,8 @@ class Checker(unittest.TestCase):
 
     def test_what_is_there(self):
         for text in (
-            "`crates/hall/specs/Fate.antt`, `hall/specs/Fate.antt`, `hall/src/`, `crates/*/specs/`, `docs/landings/`, `specs/`, `Fate.antt`",
+            "`crates/hall/specs/Fate.antt`, `hall/specs/Fate.antt`, `hall/src/`, `crates/*/specs/`, `docs/landings/`, `specs/`, "
+            "`Fate.antt`",
             "`hall/{specs,src}`, `crates/hall/{specs/Fate,specs/Fate}.antt`, `crates/hall`, `hall/late`, `crates.txt`",
             '`./tools/strip README.md --title "The shift" > shift.svg` and `tools/strip`',
             "`target/log/NAME.out`, `1 + 2`, `x = y`, `a name`, `logic=proved`",
