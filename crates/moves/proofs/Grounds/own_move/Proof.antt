@@ -5,44 +5,6 @@ use borrow.Author.Needs.{needs}
 use Rattle.moves.proofs.Grounds.own_move.Statement.{statement}
 use Rattle.moves.proofs.Grounds.own_move.Tie as tie
 
-returns : tie.Need-returns
-returns c =
-    rw
-    (c .enum-told .given .1)
-
-returns-2 : tie.Need-returns-2
-returns-2 c =
-    rw (
-      c .before .enum-told2 .given .1,
-      c .from-stop .ensures,
-    )
-
-returns-3 : tie.Need-returns-3
-returns-3 c =
-    rw (
-      c .before .enum-told3 .given .1,
-      c .from-offset-cal .ensures,
-    )
-
-returns-4 : tie.Need-returns-4
-returns-4 c =
-    rw (
-      c .before .enum-told4 .given .1,
-      c .from-bts-charge .ensures,
-    )
-
-returns-5 : tie.Need-returns-5
-returns-5 c =
-    rw
-    (c .enum-told5 .given .1)
-
-returns-6 : tie.Need-returns-6
-returns-6 c =
-    rw (
-      c .before .enum-told6 .given .1,
-      c .leaving .ensures,
-    )
-
 returns-7 : tie.Need-returns-7
 returns-7 c =
     rw (
@@ -50,13 +12,6 @@ returns-7 c =
       c .from-catch-spin .ensures,
       c .before .before .before .absolute .ensures,
       toZ-ofZ {w = w16} {z = c .before .before .before .before .before .before .args .self .speed} (search needs),
-    )
-
-returns-8 : tie.Need-returns-8
-returns-8 c =
-    rw (
-      c .before .enum-told8 .given .1,
-      c .from-parking .ensures,
     )
 
 returns-9 : tie.Need-returns-9
@@ -68,17 +23,19 @@ returns-9 c =
       toZ-ofZ {w = w16} {z = c .before .before .before .before .before .before .args .self .speed} (search needs),
     )
 
-returns-10 : tie.Need-returns-10
-returns-10 c =
-    rw (
-      c .before .enum-told10 .given .1,
-      c .from-angle-sensing .ensures,
-    )
-
 pub own-move-spec : {M : Type 1} → statement M
 own-move-spec =
     tie.close (tie.spec (search needs) (λ c. search needs) (λ c. search needs) (search needs) (λ c. search needs)
     (search needs) (λ c. search needs) (search needs) (λ c. search needs) (λ c. search needs) (search needs)
     (λ c. search needs) (search needs) (λ c. search needs) (search needs) (λ c. search needs) (search needs)
-    (λ c. search needs) (search needs) returns returns-2 returns-3 returns-4 returns-5 returns-6 returns-7 returns-8
-    returns-9 returns-10)
+    (λ c. search needs) (search needs)
+    (λ c. rw (c .enum-told .given .1))
+    (λ c. rw (c .before .enum-told2 .given .1, c .from-stop .ensures))
+    (λ c. rw (c .before .enum-told3 .given .1, c .from-offset-cal .ensures))
+    (λ c. rw (c .before .enum-told4 .given .1, c .from-bts-charge .ensures))
+    (λ c. rw (c .enum-told5 .given .1))
+    (λ c. rw (c .before .enum-told6 .given .1, c .leaving .ensures))
+    returns-7
+    (λ c. rw (c .before .enum-told8 .given .1, c .from-parking .ensures))
+    returns-9
+    (λ c. rw (c .before .enum-told10 .given .1, c .from-angle-sensing .ensures)))
