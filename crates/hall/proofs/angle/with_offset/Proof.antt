@@ -31,8 +31,12 @@ returns : tie.Need-returns
 unfolding withOffset
 returns c =
     let start = c .before .before .before .before in
-    cc (
+    rw (
       toZ-ofZ {w = w16} {z = c .signed .result} (search needs),
+      c .signed .ensures,
+      c .before .wrapping-add-u16 .ensures,
+      c .before .before .bits2 .ensures,
+      c .before .before .before .bits .ensures,
       toZ-ofZ (start .fits .angle),
       toZ-ofZ (start .fits .offset),
       added (start .args .angle) (start .args .offset) (start .fits .angle .sfits) (start .fits .offset .sfits),
