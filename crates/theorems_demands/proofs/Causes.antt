@@ -16,7 +16,7 @@ use Rattle.drive.specs.Ticks.{watch, standing, raised, alight}
 use Rattle.drive.specs.declared.Drive.{Drive}
 use Rattle.states.specs.States.{is}
 use Rattle.theorems_reached.specs.Reached.{Reached}
-use Rattle.theorems_demands.specs.Supervised.{causeOf, deadCauseOf}
+use Rattle.onlooker.specs.Words.{causeOf, deadCauseOf}
 
 module _ (d : Drive) (t : Tick) where
   abbrev s : List ℕ

@@ -13,7 +13,7 @@ use Rattle.theorems_history.specs.History.{lowSince, retrySince, everLoaded, re
 use Rattle.theorems_history.proofs.Since.{quiet, no-fault-since}
 use Rattle.drive.specs.AnyCall.{Call}
 use Rattle.theorems_reached.specs.Machine.{machine}
-use Rattle.theorems_demands.specs.Supervised.{words}
+use Rattle.onlooker.specs.Words.{words}
 use Rattle.theorems_demands.proofs.Lawful.{drive-demand3}
 
 module _ (call : Call) (earlier : List Call) where

@@ -38,7 +38,8 @@ use Rattle.drive.proofs.Settles.{settles}
 use Rattle.theorems_reached.proofs.Loads.{accepted-state}
 use Rattle.theorems_reached.proofs.Keeps.{reached-power-up, cycled-reached, call-keeps}
 use Rattle.theorems_reached.proofs.Corollaries.{disarmed-in-fault, low-excludes-high}
-use Rattle.theorems_demands.specs.Supervised.{words, deadCauseOf, DriveDemand3}
+use Rattle.onlooker.specs.Words.{words, deadCauseOf}
+use Rattle.theorems_demands.specs.Supervised.{DriveDemand3}
 use Rattle.theorems_demands.proofs.Shown.{inside, fault-shown, gates-ask, dark, shows-turning}
 use Rattle.theorems_demands.proofs.Causes.{dead-shows}
 use Rattle.theorems_demands.proofs.Remembers.{Remembers, remembers-power-up, afterRefused, refused-remembers, load-remembers}

@@ -24,7 +24,7 @@ use Rattle.theorems_reached.specs.Machine.{machine}
 use Rattle.theorems_demands.proofs.Computes.{computes}
 use Rattle.theorems_demands.specs.NamedCalls.{settingsWith, high, clear}
 use Rattle.theorems_demands.specs.NamedRuns.{noted, turned, tripped, waited, triedAgain, foremansPage, held}
-use Rattle.theorems_demands.specs.Supervised.{words}
+use Rattle.onlooker.specs.Words.{words}
 
 -- A raised command turns the pump.
 pub turns-by-command : turning (noted turned) ≡ true

@@ -22,7 +22,7 @@ use Rattle.states.specs.declared.State.the-variants.{Stop}
 use Rattle.drive.specs.declared.offsets.Offsets.{Offsets}
 use Rattle.motor.specs.declared.Run.{Run}
 use Rattle.theorems_reached.proofs.Hall.{dead-by-pattern}
-use Rattle.theorems_demands.specs.Supervised.{words}
+use Rattle.onlooker.specs.Words.{words}
 
 pub record Remembers (d : Drive) (memory : Memory) : Type 0 where
   -- in IDLE nothing is loaded, and nothing is asked of what is

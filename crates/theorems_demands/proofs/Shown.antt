@@ -10,7 +10,7 @@ use Rattle.states.specs.States.{is, turning}
 use Rattle.faults.specs.Word.{any}
 use Rattle.drive.specs.Answer.{liveWord, answer}
 use Rattle.drive.specs.declared.Drive.{Drive}
-use Rattle.theorems_demands.specs.Supervised.{words}
+use Rattle.onlooker.specs.Words.{words}
 use Rattle.drive.proofs.Gates.{gates-by}
 
 abbrev pub inside : Drive → Inside

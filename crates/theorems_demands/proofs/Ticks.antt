@@ -32,7 +32,7 @@ use Rattle.moves.specs.declared.Grounds.{Grounds}
 use Rattle.moves.specs.declared.Move.{Move}
 use Rattle.moves.specs.declared.Move.the-variants.{Stay, Enter, Measure, Clear, Retry}
 use Rattle.states.proofs.Groups.{turns as turning-is}
-use Rattle.theorems_demands.specs.Supervised.{words, causeOf, deadCauseOf}
+use Rattle.onlooker.specs.Words.{words, causeOf, deadCauseOf}
 use Rattle.theorems_demands.proofs.Tests.{never-both, arming, unarmed, one-state, begins, begins-nothing, runs-on}
 use Rattle.theorems_demands.proofs.Causes.{found-blocks, found-trips}
 use Rattle.theorems_demands.proofs.Shown.{inside, fault-shown, gates-ask, dark, shows-running, shows-turning}

@@ -25,7 +25,7 @@ use Rattle.theorems_reached.specs.Machine.{machineOf}
 use Rattle.theorems_demands.proofs.Computes.{computes}
 use Rattle.theorems_demands.specs.NamedCalls.{settingsWith, loaded, loadedInMode1, shows, tickWith, low, high, over, clear}
 use Rattle.theorems_demands.specs.NamedCalls.{ready, started}
-use Rattle.theorems_demands.specs.Supervised.{words}
+use Rattle.onlooker.specs.Words.{words}
 
 -- a drive is what it replies in each state
 abbrev Replies : Type 0

@@ -9,7 +9,7 @@ use Rattle.theorems_history.specs.Page.{Mark, load, low, cause, retry, start, t
 use Rattle.drive.specs.AnyCall.{Call}
 use Rattle.theorems_reached.specs.Machine.{machine}
 use Rattle.theorems_demands.specs.NamedCalls.{loadedInMode1, high, over, clear, ready, started, times}
-use Rattle.theorems_demands.specs.Supervised.{words}
+use Rattle.onlooker.specs.Words.{words}
 
 -- what the onlooker notes of a list of calls, the newest first
 abbrev pub noted : List Call → List Seen

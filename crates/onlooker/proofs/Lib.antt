@@ -1,0 +1,4 @@
+pub mod Clipped
+pub mod Heard
+pub mod Remembers
+pub mod Follows

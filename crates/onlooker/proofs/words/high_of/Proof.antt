@@ -1,0 +1,10 @@
+-- `high_of` goes by the mode.
+use borrow.Author.Needs.{needs}
+use Rattle.onlooker.proofs.words.high_of.Statement.{statement}
+use Rattle.onlooker.proofs.words.high_of.Tie as tie
+
+returns : tie.Need-returns
+returns c = cc
+
+pub high-of-spec : {M : Type 1} → statement M
+high-of-spec = tie.close (tie.spec (search needs) (search needs) (search needs) returns)

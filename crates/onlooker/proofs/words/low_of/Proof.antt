@@ -1,0 +1,10 @@
+-- `low_of` goes by the mode.
+use borrow.Author.Needs.{needs}
+use Rattle.onlooker.proofs.words.low_of.Statement.{statement}
+use Rattle.onlooker.proofs.words.low_of.Tie as tie
+
+returns : tie.Need-returns
+returns c = cc
+
+pub low-of-spec : {M : Type 1} → statement M
+low-of-spec = tie.close (tie.spec (search needs) (search needs) (search needs) returns)

@@ -1,0 +1,5 @@
+pub mod Words
+pub mod Past
+pub mod Scene
+pub mod Hears
+pub mod Tells

@@ -1,0 +1,71 @@
+// The words of this drive's calls and answers: low, high, the causes and the states, as specs/Words.antt has them.
+use fields::Tick;
+use settings::CMD_START;
+use settings::CMD_STOP;
+use settings::CONTROL_MODE;
+use settings::CRITICAL_OV_LEVEL;
+use settings::FAULT_ENABLE;
+use settings::SETTING_COUNT;
+use settings::T_SHUTDOWN;
+use settings::VDC_LV_LEVEL;
+use settings::VDC_OV_LEVEL;
+ghost use mathlib.Core.Bool.{cond};
+ghost use mathlib.Core.Path.{_≡_};
+ghost use Rattle.onlooker.specs.Words.{isMode1, lowOf, highOf, causeOf, deadCauseOf, words};
+
+fn pick_bool(test: bool, yes: bool, no: bool) -> bool
+    ensures { λ r. ⌜ r ≡ cond test yes no ⌝ }
+{
+    if test { yes } else { no }
+}
+
+pub(crate) fn is_mode_1(numbers: [u16; SETTING_COUNT]) -> bool
+    ensures { λ r. ⌜ r ≡ isMode1 numbers ⌝ }
+{
+    numbers[CONTROL_MODE] == 1
+}
+
+pub(crate) fn low_of(numbers: [u16; SETTING_COUNT], tick: Tick) -> bool
+    ensures { λ r. ⌜ r ≡ lowOf numbers tick ⌝ }
+{
+    pick_bool(
+        is_mode_1(numbers),
+        tick.control <= numbers[CMD_STOP],
+        tick.command == 0,
+    )
+}
+
+pub(crate) fn high_of(numbers: [u16; SETTING_COUNT], tick: Tick) -> bool
+    ensures { λ r. ⌜ r ≡ highOf numbers tick ⌝ }
+{
+    pick_bool(
+        is_mode_1(numbers),
+        numbers[CMD_START] <= tick.control,
+        tick.command == 1,
+    )
+}
+
+// The masks of bits 2, 3 and 6, and of bit 15: 2 to the power of the bit.
+pub(crate) fn cause_of(numbers: [u16; SETTING_COUNT], tick: Tick) -> bool
+    ensures { λ r. ⌜ r ≡ causeOf numbers tick ⌝ }
+{
+    let enable = numbers[FAULT_ENABLE];
+    (tick.gate_kill == 1)
+        | (numbers[CRITICAL_OV_LEVEL] < tick.vdc_raw)
+        | (numbers[VDC_OV_LEVEL] < tick.vdc_filt) & (enable / 4 % 2 == 1)
+        | (tick.vdc_filt < numbers[VDC_LV_LEVEL]) & (enable / 8 % 2 == 1)
+        | (numbers[T_SHUTDOWN] < tick.temperature) & (enable / 64 % 2 == 1)
+}
+
+pub(crate) fn dead_cause_of(numbers: [u16; SETTING_COUNT], dead: u32) -> bool
+    ensures { λ r. ⌜ r ≡ deadCauseOf numbers dead ⌝ }
+{
+    (dead == 2) & (numbers[FAULT_ENABLE] / 32768 % 2 == 1)
+}
+
+// The six starting and running states.
+pub(crate) fn is_running(state: u8) -> bool
+    ensures { λ r. ⌜ r ≡ words .isRunning state ⌝ }
+{
+    (state == 3) | (state == 4) | (state == 6) | (state == 7) | (state == 8) | (state == 9)
+}
