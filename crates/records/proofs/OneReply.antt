@@ -8,5 +8,8 @@ use Rattle.records.proofs as promises
 pub read : OneReply promises.read.ended promises.read.Reads.Post
 read κs given r s p q = same (p ∙⁻¹ q) refl
 
+pub settings-at : OneReply promises.settings_at.ended promises.settings_at.Reads.Post
+settings-at κs given r s p q = same (p ∙⁻¹ q) refl
+
 pub run : OneReply promises.run.ended promises.run.Reads.Post
 run κs given r s p q = same (p .0 ∙⁻¹ q .0) (ap (λ (bytes : List ℕ). (tt, (tt, (tt, (bytes, tt))))) (p .1 .0 ∙⁻¹ q .1 .0))

@@ -1,8 +1,10 @@
 -- Document 01, "Report line and program": the numbers and fields in the bytes of a record.
 use Prim.Native.Nat.{ℕ, zero, suc, _+_, _*_}
+use mathlib.Core.Bool.{cond}
 use mathlib.Core.List.{List, [], _∷_}
 use lib.IntN.{ℤ}
-use lib.ListN.{getD}
+use lib.Dec.{ltb}
+use lib.ListN.{length, getD, replicate}
 use mir.Syntax.{w16}
 use mir.Val.{toZ}
 use Rattle.settings.specs.Settings.{settingCount}
@@ -32,6 +34,10 @@ loadSize = 1 + 2 * settingCount
 
 unfoldable pub settingsOf : List ℕ → List ℕ
 settingsOf bytes = numbers settingCount 1 bytes
+
+-- the same of any bytes: zeros where they are fewer
+abbrev pub settingsIn : List ℕ → List ℕ
+settingsIn bytes = cond (ltb (length bytes) loadSize) (replicate settingCount 0) (settingsOf bytes)
 
 -- "C, pattern byte and two numbers"
 abbrev pub cycleSize : ℕ

@@ -5,6 +5,7 @@ mod decoded;
 use answers::resting;
 use answers::step;
 use decoded::cycle_of;
+use decoded::settings_of;
 use decoded::tick_of;
 use drive::Drive;
 use fields::Cycle;
@@ -13,6 +14,7 @@ use settings::SETTING_COUNT;
 ghost use mathlib.Core.Path.{_≡_};
 ghost use Prim.Native.Nat.{_≤_};
 ghost use lib.ListN.{length, drop};
+ghost use Rattle.records.specs.Decoded.{settingsIn};
 ghost use Rattle.records.specs.Front.{front, found};
 ghost use Rattle.records.specs.Run.{run, ranOf, outputAfter};
 
@@ -76,6 +78,19 @@ pub fn read(input: &[u8], at: usize) -> Found
         return Found::Tick(tick_of(&input[at..]));
     }
     Found::Unknown
+}
+
+// The numbers of the load that stands at a place, for whoever makes the call himself; zeros where the bytes of a load are not all there.
+pub fn settings_at(input: &[u8], at: usize) -> [u16; SETTING_COUNT]
+    ensures { λ r. ⌜ r ≡ settingsIn (drop at (now (input .entry))) ⌝ }
+{
+    if input.len() <= at {
+        return [0u16; SETTING_COUNT];
+    }
+    if input.len() - at < LOAD_SIZE {
+        return [0u16; SETTING_COUNT];
+    }
+    settings_of(&input[at..])
 }
 
 // Takes whole records from the front of the input and writes their lines one after the other, until the input holds no whole record

@@ -1,0 +1,52 @@
+// Reads a report line back, for whoever has only the lines of a board.
+mod fields_in;
+mod values;
+
+use check::same;
+use fields_in::answer_in;
+use report::LINE_LENGTH;
+ghost use mathlib.Core.Path.{_≡_};
+ghost use Rattle.lines.specs.Shown.{shownBy};
+
+// What a line shows, and all 0 where it is no line that an answer has.
+pub struct Shown {
+    pub good: bool,
+    pub number: u8,
+    pub state: u8,
+    pub gate: u8,
+    pub live: u16,
+}
+
+const UNREADABLE: Shown = Shown {
+    good: false,
+    number: 0,
+    state: 0,
+    gate: 0,
+    live: 0,
+};
+
+// The answer that the digits show is written again. Only where this gives the very same bytes the line is good, so no field needs a
+// check of its own.
+pub fn read(line: &[u8]) -> Shown
+    ensures { λ r. ⌜ r ≡ shownBy (now (line .entry)) ⌝ }
+{
+    if line.len() != LINE_LENGTH {
+        return UNREADABLE;
+    }
+    let answer = answer_in(line);
+    let mut written = [0u8; LINE_LENGTH];
+    let verdict = report::line(answer, &mut written);
+    if verdict.number != 0 {
+        return UNREADABLE;
+    }
+    if !same(&written, line) {
+        return UNREADABLE;
+    }
+    Shown {
+        good: true,
+        number: answer.number,
+        state: answer.state,
+        gate: answer.gate,
+        live: answer.live,
+    }
+}
