@@ -30,7 +30,8 @@ DESCRIPTION = f"""The text has one record to a line; '#' begins a comment:
 Numbers are decimal or 0x hexadecimal. A value that fits the bytes of its record is
 written even where the paper forbids it: refusing it is the supervisor's work.
 An error is told as FILE:LINE:COLUMN: and leaves standard output empty.
-Exit status: 0 written, 1 errors in the text, 2 wrong use or unreadable file.
+Exit status: 0 written, or until whoever reads had enough; 1 errors in the text, or a write that
+failed; 2 wrong use, an unreadable file, or text in UTF-16.
 """
 
 

@@ -1,22 +1,22 @@
 """tools/strip: draws report lines as a strip chart."""
 
-import argparse
-import os
 import sys
 from typing import List
 from xml.sax.saxutils import escape
 
 from . import line_form
+from .arguments import from_one, parser_of
 from .strip_picture import EDGE, FAINT_INK, ORANGE, PAGE, RED, Picture, rectangle
 from .strip_runs import LEFT, RIGHT, Span, lay_out, read_runs, rows_of, spans_of
+from .text_file import UTF16, InUtf16
 
 DESCRIPTION = """Draw the report lines of `shiftline` as a strip chart, in SVG on standard output.
 
-  records shift.txt | shiftline | ./strip > shift.svg
+  ./shiftline examples/shift.txt | tools/strip > shift.svg
 
 Records go from left to right. A long run of equal lines, such as the wait in FAULT, is
 drawn short on hatched ground; its label tells how many lines it has.
-Exit status: 0 drawn, 1 something is not a report line, 2 wrong use or unreadable file.
+Exit status: 0 drawn; 1 something is not a report line, or a write failed; 2 wrong use, an unreadable file, or text in UTF-16.
 """
 
 # Each table gives label and colour of its rows, from the top row to the bottom row.
@@ -75,30 +75,27 @@ def draw(runs: List[Span], title: str, width: int, longest: int) -> str:
 
 
 def main() -> int:
-    parser = argparse.ArgumentParser(prog="strip", description=DESCRIPTION,
-                                     formatter_class=argparse.RawDescriptionHelpFormatter)
+    parser = parser_of("strip", DESCRIPTION)
     parser.add_argument("file", nargs="?", default="-", metavar="FILE",
                         help="report lines; '-' or none reads standard input")
     parser.add_argument("--title", default="shiftline strip chart")
-    parser.add_argument("--width", type=int, default=1080, help="in pixels (1080)")
-    parser.add_argument("--longest", type=int, default=20, metavar="N",
+    parser.add_argument("--width", type=from_one, default=1080, help="in pixels (1080)")
+    parser.add_argument("--longest", type=from_one, default=20, metavar="N",
                         help="runs of more than N equal lines are drawn short (20)")
     options = parser.parse_args()
-    if options.width < 400 or options.longest < 1:
-        parser.error("--width is at least 400, --longest at least 1")
+    if options.width < 400:
+        parser.error("--width is at least 400")
     name = "<stdin>" if options.file == "-" else options.file
     try:
         with sys.stdin.buffer if options.file == "-" else open(name, "rb") as lines:
             runs = read_runs(lines)
     except OSError as error:
         parser.error(f"{name}: {error.strerror}")
+    except InUtf16:
+        print(f"strip: {name} {UTF16}", file=sys.stderr)
+        return 2
     except ValueError as error:
         print(f"{name}:{error}", file=sys.stderr)
         return 1
-    try:
-        sys.stdout.write(draw(runs, options.title, options.width, options.longest))
-        sys.stdout.flush()
-    except BrokenPipeError:
-        # Python flushes once more at exit and gets a place where that does no harm.
-        os.dup2(os.open(os.devnull, os.O_WRONLY), sys.stdout.fileno())
+    sys.stdout.write(draw(runs, options.title, options.width, options.longest))
     return 0

@@ -1,7 +1,6 @@
 """The commands of tools/, run as people run them."""
 
 import subprocess
-import sys
 from typing import List, Union
 
 from rudavesh.places import TOOLS
@@ -11,7 +10,7 @@ TIMEOUT = 600
 
 
 def command(name: str, *arguments: str) -> List[str]:
-    return [sys.executable, str(TOOLS / name), *arguments]
+    return [str(TOOLS / name), *arguments]
 
 
 def run(name: str, text: Union[str, bytes], *arguments: str) -> subprocess.CompletedProcess:
