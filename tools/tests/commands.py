@@ -1,12 +1,19 @@
 """The commands of tools/, run as people run them."""
 
+import os
 import subprocess
+import sys
+from pathlib import Path
 from typing import List, Union
 
 from rudavesh.places import TOOLS
 
 # Only to end a command that hangs: in the gate the tests have whatever the prover leaves of the machine, and may wait long.
 TIMEOUT = 600
+
+
+# The commands find python3 on the PATH: that is to be the one that runs the tests.
+os.environ["PATH"] = f"{Path(sys.executable).parent}{os.pathsep}{os.environ['PATH']}"
 
 
 def command(name: str, *arguments: str) -> List[str]:

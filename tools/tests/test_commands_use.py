@@ -12,18 +12,14 @@ from .commands import run
 
 COMMANDS = ("compare", "measure", "records", "stored", "strength", "strip")
 WRONG = (
-    ("compare", "x"), ("compare", "0"), ("compare", "-1"), ("compare", "1", "0"), ("compare", "1", "1", "1"), ("compare", "--nonsense"),
-    ("compare", "\u0663"),
-    ("measure", "--nonsense"), ("measure", "x"), ("measure", "--totals", "x"),
-    ("records", "a", "b"), ("records", "--nonsense"), ("records", str(TOOLS)), ("records", "/no/such/file"),
-    ("stored", "--nonsense"), ("stored", "x"), ("stored", "--check", "x"),
-    ("strength", "--every", "0"), ("strength", "--every", "x"), ("strength", "--every"), ("strength", "no_such_crate"),
-    ("strip", "a", "b"), ("strip", "--width", "0"), ("strip", "--width", "10"), ("strip", "--longest", "x"), ("strip", str(TOOLS)),
+    ("compare", "x"), ("compare", "0"), ("compare", "1", "0"), ("compare", "1", "1", "1"), ("compare", "\u0663"), ("measure", "--nonsense"),
+    ("measure", "x"), ("records", "--nonsense"), ("stored", "--nonsense"), ("stored", "x"), ("strength", "--every", "0"),
+    ("strength", "--every", "x"), ("strength", "no_such_crate"), ("strip", "--width", "0"), ("strip", str(TOOLS)),
 )  # fmt: skip
 
 
 class Use(unittest.TestCase):
-    """With an empty PATH but for Python and the shell: whatever would be built would fail."""
+    """With a cargo and an rt that note that they were called, and fail."""
 
     def setUp(self) -> None:
         folder = tempfile.TemporaryDirectory()
@@ -46,12 +42,11 @@ class Use(unittest.TestCase):
 
     def test_help_tells_the_exit_statuses(self):
         for name in COMMANDS:
-            for word in ("-h", "--help"):
-                done = run(name, "", word)
-                said = done.stdout.decode()
-                self.assertEqual((done.returncode, done.stderr), (0, b""), name)
-                self.assertTrue(said.startswith(f"usage: tools/{name} "), said[:60])
-                self.assertRegex(re.sub(r"\s+", " ", said), "Exit status: 0 .*; 2 wrong use")
+            done = run(name, "", "--help")
+            said = done.stdout.decode()
+            self.assertEqual((done.returncode, done.stderr), (0, b""), name)
+            self.assertTrue(said.startswith(f"usage: tools/{name} "), said[:60])
+            self.assertRegex(re.sub(r"\s+", " ", said), "Exit status: 0 .*; 2 wrong use")
         self.assertFalse(self.marker.exists())
 
     def test_wrong_use_is_told_with_the_usage(self):
