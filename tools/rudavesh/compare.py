@@ -1,7 +1,7 @@
 """Runs the proved program and the independent model (model/, written from document 01 alone) over the
 same generated records, and counts the lines in which they differ. Default: 40 seeds of 25,000 records, and three of 150,000 for what is
 slow.
-Exit status: 0 no line differs; 1 some do; 2 wrong use, cargo or the kit is missing, or one of the programs failed."""
+Exit status: 0 no line differs; 1 some do, or a write failed; 2 wrong use, cargo or the kit is missing, or one of the programs failed."""
 
 import re
 import shutil
@@ -13,7 +13,7 @@ from typing import List, Tuple
 
 from . import model
 from .arguments import from_one, parser_of
-from .places import ROOT
+from .places import TOOLS
 
 SEEDS, RECORDS = 40, 25_000
 LONG_SEEDS, LONG_RECORDS = (4, 7, 9), 150_000
@@ -23,7 +23,7 @@ SHOWN_OF_REACHED = re.compile("streams|records|listed|counted|at zero")
 def proved(records: Path) -> bytes:
     """The lines of the proved program."""
     with records.open("rb") as stream:
-        return subprocess.run([ROOT / "shiftline"], stdin=stream, stdout=subprocess.PIPE, check=True).stdout
+        return subprocess.run([TOOLS / "run", "shiftline"], stdin=stream, stdout=subprocess.PIPE, check=True).stdout
 
 
 def difference(expected: Path, found: Path) -> List[str]:

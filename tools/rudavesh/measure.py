@@ -3,7 +3,7 @@
 Reads what `rt ci` left under target/. `rt check` leaves the same but for the edits; a crate that it found unchanged has no time.
 Lines are without blank ones and comments. An edit's time is the mean over the crate's must-fail edits.
 --totals needs no check: lines of all crates together, and the longest line and the files over 300 lines of crates, model and tools.
-Exit status: 0 printed; 2 wrong use, or nothing is checked yet."""
+Exit status: 0 printed; 1 a write failed; 2 wrong use, or nothing is checked yet."""
 
 import re
 import sys

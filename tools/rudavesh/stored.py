@@ -2,7 +2,8 @@
 
 What a program must print is worked out from document 01 or by the independent model (rudavesh/expected), never by the program.
 Needs cargo, which builds the model.
-Exit status: 0 rewritten, or with --check all as they would be written; 1 with --check some are not; 2 wrong use, or no model."""
+Exit status: 0 rewritten, or with --check all as they would be written; 1 with --check some are not,
+or a write failed; 2 wrong use, or no model."""
 
 import sys
 from pathlib import Path

@@ -6,7 +6,8 @@ A change that the prover refuses did not get through: a promise rules it out, or
 proof file no longer fits it; these are counted as one. One that it accepts (a survivor) is a gap in a promise, or an equal program.
 One that leaves no program, since its types do not fit, shows nothing.
 Without CRATE: every crate with code that others call. --list shows the changes and asks nothing; --every N asks about each N-th.
-Exit status: 0 none survived, or listed; 1 some did; 2 wrong use, the kit is missing, or the crates are not proved as they stand."""
+Exit status: 0 none survived, or listed; 1 some did, or a write failed; 2 wrong use, the kit is missing, or the crates are
+not proved as they stand."""
 
 import re
 import shutil

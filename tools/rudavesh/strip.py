@@ -22,7 +22,8 @@ With --why it marks starts, stops, trips and exits from FAULT, and tells the rea
   ./why examples/shift.txt > reasons
   ./shiftline examples/shift.txt | tools/strip --why reasons > shift.svg
 
-Exit status: 0 drawn; 1 something is not a report line, or no reason, or a write failed; 2 wrong use, an unreadable file, or text in UTF-16.
+Exit status: 0 drawn; 1 something is not a report line, or no reason, or a write failed;
+2 wrong use, an unreadable file, or text in UTF-16.
 """
 
 # Each table gives label and colour of its rows, from the top row to the bottom row.

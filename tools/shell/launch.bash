@@ -13,7 +13,8 @@ The first run, and the first one after a change of the sources, proves and build
 
 Exit status: 0 it ran to its end, or until whoever reads its lines had enough;
 1 an error in the text, a read or a write that failed, or the program is not proved;
-2 wrong use, a file that cannot be read, text in UTF-16, or the kit or python3 is missing."
+2 wrong use, a file that cannot be read, text in UTF-16, or the kit or python3 is missing;
+130 interrupted while it was built."
 
 # The most bytes that are looked at before it is told what they are.
 LOOK=64
@@ -24,6 +25,8 @@ LOOK=64
 look() {
     local LC_ALL=C byte code digits='' count=0 control='' comment=''
     front='' kind=''
+    # Nobody types bytes; and to look at single ones would change the terminal.
+    [ ! -t 0 ] || kind=text
     while [ -z "$kind" ] && [ "$count" -lt "$LOOK" ] && IFS= read -r -d '' -n 1 byte; do
         # An empty one is the byte 0, by which this `read` ends.
         if [ -n "$byte" ]; then printf -v code '%02x' "'$byte"; else code=00; fi
@@ -42,7 +45,7 @@ look() {
         *) [ -z "$control" ] && [[ $digits != [89a-f]* ]] || kind=bytes ;;
         esac
     done
-    # A single byte is a record cut short, or unknown: text has a line feed at least.
+    # A single byte is a record cut short, or unknown: a line of text has two at least.
     [ -n "$kind" ] || { [ "$count" -gt 1 ] && kind=text || kind=bytes; }
 }
 
@@ -66,7 +69,7 @@ open_input() { # FILE
         name='<stdin>'
         { : 5<&0; } 2>/dev/null || fail 2 "standard input is closed."
         [ ! -d /dev/stdin ] || fail 2 "standard input is a directory, and no file of records."
-        [ ! -t 0 ] || say "reading records from the terminal; Ctrl-D ends them."
+        [ ! -t 0 ] || say "reading text from the terminal; Ctrl-D ends it."
         return
     fi
     [ -e "$1" ] || fail 2 "there is no file $1."

@@ -1,4 +1,5 @@
-# The proved program behind a word of programs.txt: found, and where its sources changed proved and built first. Needs `command`, `root`.
+# The proved program behind a word of programs.txt: found, and where its sources changed proved and built first. For a bash with pipefail;
+# needs `command` (what messages call it) and `root`.
 #
 # What runs is a copy, target/run/FOLDER.HASH, named by a hash of all that it is made from: the kit, crates.txt, and the sources of its
 # crate and of every crate that it knows. So a copy that is there was proved from the sources as they stand, and no rt is asked; and a
@@ -42,13 +43,15 @@ hash_of_sources() { # CRATE ...
     (cd "$root" && { cat crates.txt; find -L "${folders[@]}" -type f -exec sha256sum {} + | LC_ALL=C sort; } | sha256sum) | cut -c 1-64
 }
 
+look_at_sources() { sources=$(hash_of_sources "${crates[@]}") || fail 2 "the sources of $folder cannot be read."; }
+
 # Sets `folder`, `crates` and `sources` of a word's program.
 find_program() { # WORD
     folder=$(folder_of "$1")
     [ -f "$root/crates/$folder/src/main.rt" ] || fail 2 "there is no program $1 in this tree: crates/$folder/src/main.rt is missing."
     mapfile -t crates < <(crates_below "$folder")
     [ ${#crates[@]} -gt 0 ] || fail 2 "crates.txt does not list $folder."
-    sources=$(hash_of_sources "${crates[@]}")
+    look_at_sources
 }
 
 # Sets `kit`, its folder; the loader and on other machines than x86-64 the emulator are the kit's own.
@@ -100,7 +103,7 @@ build() {
             grep -vE '^(fn|struct|enum) .*: proved$|^logic|^library|^rt: [a-z_0-9]+ proved \(' "$root/target/run/log" >&2
             fail 1 "$folder is not proved, so it is not run; target/run/log has all that rt said."
         fi
-        sources=$(hash_of_sources "${crates[@]}")
+        look_at_sources
     done
     name_copy
     cp "$root/target/bin/$folder" "$root/target/run/new.$folder" && chmod 755 "$root/target/run/new.$folder" &&
@@ -121,7 +124,7 @@ make_ready() { # WORD
         flock -n 9 || { say "waiting for the build of $(head -n 1 "$root/target/run/builds" 2>/dev/null) by another command."; flock 9; }
         echo "$folder" >"$root/target/run/builds"
         # Whoever held the lock may have built it.
-        sources=$(hash_of_sources "${crates[@]}")
+        look_at_sources
         name_copy
         [ -x "$copy" ] || build
         exec 9>&-

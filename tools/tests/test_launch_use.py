@@ -1,6 +1,7 @@
 """What people do to the commands at the root: arguments, files of any kind and name, output that cannot be written, no python3."""
 
 import os
+import pty
 import resource
 import shutil
 import signal
@@ -107,6 +108,18 @@ class Input(Case):
             process.stdin.write(RECORD)
             process.stdin.flush()
             self.assertEqual(process.stdout.read(20), RECORD)
+
+    def test_text_typed_in_a_terminal(self):
+        try:
+            master, terminal = pty.openpty()
+        except OSError:
+            self.skipTest("no terminal can be opened here")
+        os.write(master, TEXT + b"\x04")
+        done = self.run_it("shiftline", stdin=terminal)
+        os.close(terminal)
+        os.close(master)
+        self.assertEqual((done.returncode, done.stdout), (0, RECORD))
+        self.assertEqual(done.stderr, b"shiftline: reading text from the terminal; Ctrl-D ends it.\n")
 
     def test_an_error_in_the_text_is_told_with_its_place_and_the_program_prints_nothing(self):
         file = self.file("shift", b"tick\nbad\n")
