@@ -67,15 +67,13 @@ open_input() { # FILE
     name=$1
     if [ "$1" = - ]; then
         name='<stdin>'
-        { : 5<&0; } 2>/dev/null || fail 2 "standard input is closed."
         [ ! -d /dev/stdin ] || fail 2 "standard input is a directory, and no file of records."
         [ ! -t 0 ] || say "reading text from the terminal; Ctrl-D ends it."
         return
     fi
-    [ -e "$1" ] || fail 2 "there is no file $1."
-    [ ! -d "$1" ] || fail 2 "$1 is a directory, and no file."
-    [ -r "$1" ] || fail 2 "$1 cannot be read."
-    exec <"$1" || fail 2 "$1 cannot be read."
+    [ -e "$1" ] || fail 2 "there is no file '$1'."
+    [ ! -d "$1" ] || fail 2 "'$1' is a directory, and no file."
+    { [ -r "$1" ] && exec <"$1"; } || fail 2 "'$1' cannot be read."
 }
 
 # The lines that a board printed, with Windows line ends or without, as the descriptor that the judge reads.
@@ -118,8 +116,7 @@ launch() { # WORD JUDGE ARGUMENT ...
     local word=$1 judge=$2
     command=$word
     read_arguments "$word" "$([ -n "$judge" ] && echo 2 || echo 1)" "${@:3}"
-    { : 5>&2; } 2>/dev/null || exec 2>/dev/null
-    { : 5>&1; } 2>/dev/null || fail 1 "standard output is closed."
+    look_at_descriptors
     if [ "${#files[@]}" -gt 1 ]; then
         [ "${files[*]}" != '- -' ] || wrong_use "records and lines cannot both come by standard input"
         exec 4<&0
@@ -128,7 +125,7 @@ launch() { # WORD JUDGE ARGUMENT ...
         exec 4<&-
         word=$judge
     fi
-    open_input "${files[0]:--}"
+    open_input "${files[0]--}"
     look
     [ "$kind" != utf16 ] || fail 2 "$name is text in UTF-16: save it as UTF-8, and give that."
     [ "$kind" != text ] || command -v python3 >/dev/null || fail 2 "python3 is missing: it turns the text of $name into records."

@@ -61,7 +61,7 @@ class Case(unittest.TestCase):
         folder = tempfile.TemporaryDirectory()
         self.addCleanup(folder.cleanup)
         self.room = Path(folder.name)
-        self.root, self.kit, self.calls, self.hold = (self.room / name for name in ("tree", "kit", "calls", "hold"))
+        self.root, self.kit, self.calls, self.hold = (self.room / name for name in ("a tree", "a kit", "calls", "hold"))
         shutil.copytree(TOOLS, self.root / "tools", ignore=shutil.ignore_patterns("tests", "__pycache__"))
         for name in ("shiftline", "benchline", "why"):
             shutil.copy(ROOT / name, self.root / name)

@@ -62,7 +62,7 @@ class Arguments(Case):
         self.file("shift.txt", TEXT)
         done = subprocess.run(["../of link", "shift.txt"], cwd=self.temporary, env=self.environment, stdout=subprocess.PIPE,
                               stderr=subprocess.PIPE, timeout=TIMEOUT, check=False)  # fmt: skip
-        self.told(done, 2, "there is no file shift.txt")
+        self.told(done, 2, "there is no file 'shift.txt'")
         done = subprocess.run(["./of link", "shift.txt"], cwd=self.room, env=self.environment, stdout=subprocess.PIPE,
                               timeout=TIMEOUT, check=False)  # fmt: skip
         self.assertEqual((done.returncode, done.stdout), (0, RECORD))
@@ -78,7 +78,8 @@ class Input(Case):
 
     def test_a_directory_a_missing_file_and_an_unreadable_one(self):
         self.told(self.run_it("shiftline", self.room), 2, "is a directory")
-        self.told(self.run_it("shiftline", self.room / "none"), 2, "there is no file")
+        for name in (self.room / "none", ""):
+            self.told(self.run_it("shiftline", name), 2, f"there is no file '{name}'")
         descriptor = os.open(self.room, os.O_RDONLY)
         self.addCleanup(os.close, descriptor)
         self.told(self.run_it("shiftline", stdin=descriptor), 2, "standard input is a directory")
@@ -183,9 +184,10 @@ class Output(Case):
             self.told(self.run_it("shiftline", self.shift, stdout=lines, preexec_fn=limit), 1, "File too large")
 
     def test_a_closed_output_is_told(self):
-        for name in ("shiftline", "tools/records"):
-            done = self.run_it(name, self.shift, preexec_fn=lambda: os.close(1))
-            self.told(done, 1, "standard output is closed")
+        for name, argument in (("shiftline", self.shift), ("tools/run", "shiftline"), ("tools/records", self.shift)):
+            self.told(self.run_it(name, argument, preexec_fn=lambda: os.close(1)), 1, "standard output is closed")
+        for words in (["shiftline"], ["tools/run", "shiftline"]):
+            self.told(self.run_it(*words, preexec_fn=lambda: os.close(0)), 2, "standard input is closed")
 
     def test_a_reader_that_closes_ends_it_quietly(self):
         # As a shell starts it, where the signal of a closed pipe ends the program; and where that is ignored and a write fails.
