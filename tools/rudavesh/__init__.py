@@ -12,7 +12,7 @@ What more than one tool has to know stands once:
   model         where the model's programs are, how they are built and run
 The tools:
   records, records_text                 tools/records
-  strip, strip_picture, strip_runs      tools/strip
+  strip, strip_marks, strip_picture, strip_runs   tools/strip
   compare, strength, measure            the commands of these names
   stored, expected                      tools/stored
   citations                             a test: what the docs cite is there"""

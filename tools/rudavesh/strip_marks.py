@@ -12,7 +12,7 @@ from .text_file import without_ends
 LINE = re.compile(r"record +(\d+) +(\S.*)")
 # What a sentence begins with, its word in the legend, and the colour of its marks.
 KINDS = {
-    "start": ("start", re.compile(r"start\b"), "#1b873f"),
+    "start": ("start", re.compile(r"start\b|a starting or running state entered"), "#1b873f"),
     "stop": ("stop", re.compile(r"stop\b"), "#4b5563"),
     "trip": ("trip", re.compile(r"trip\b"), "#c62828"),
     "exit": ("FAULT left", re.compile(r"FAULT left\b"), "#1d4ed8"),

@@ -19,7 +19,7 @@ class FourLoads(unittest.TestCase):
         self.assertGreaterEqual(len(found), 4, found)
 
     def test_why_tells_them_in_four_sentences(self):
-        found = set(re.findall(r"^record +[0-9]+ +refused: (.*)$", self.stored("program_why"), re.M))
+        found = set(re.findall(r"^record +[0-9]+ +load refused: (.*)$", self.stored("program_why"), re.M))
         self.assertGreaterEqual(len(found), 4, found)
 
 

@@ -4,6 +4,9 @@ import tempfile
 import unittest
 from pathlib import Path
 
+from rudavesh.places import crate_folder
+from rudavesh.strip_marks import LINE
+
 from .commands import run
 from .paper import line
 from .strip_case import LEFT, RIGHT, SVG, Case
@@ -95,6 +98,13 @@ class Marks(Case):
             file.write_text(LINES.replace("\n", "\r\n"), newline="")
             root = self.drawn(WHY.replace("\n", "\r\n"), str(file), "--why", "-")
         self.assertEqual(len(self.of_class(root, "why")), 5)
+
+    def test_the_lines_that_why_prints_have_the_form(self):
+        file = crate_folder("program_why") / "stdout"
+        if not file.exists():
+            self.skipTest("there is no program_why yet")
+        for text in file.read_text().splitlines():
+            self.assertTrue(LINE.fullmatch(text), text)
 
     def test_nothing_happened(self):
         for why in ("", "record 1      loaded: mode 1, 2 retries allowed\n"):
