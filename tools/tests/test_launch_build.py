@@ -127,7 +127,8 @@ class FirstRun(Case):
 
     def test_an_interrupt_ends_all_of_the_build_and_breaks_nothing(self):
         self.hold.touch()
-        process = self.start("shiftline", start_new_session=True)
+        # The gate starts its tests in the background, where an interrupt is ignored.
+        process = self.start("shiftline", start_new_session=True, preexec_fn=lambda: signal.signal(signal.SIGINT, signal.SIG_DFL))
         wait_for(self.calls)
         os.killpg(process.pid, signal.SIGINT)
         said = process.communicate(timeout=TIMEOUT)[1].decode()

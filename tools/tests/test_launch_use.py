@@ -135,7 +135,7 @@ class Input(Case):
         self.told(self.run_it("why", self.file("shift", RECORD), self.file("lines", content)), 2, "lines is text in UTF-16")
 
     def test_records_and_the_lines_of_a_board(self):
-        shift, lines = self.file("shift", TEXT), self.file("lines", b"one\r\ntwo\r\r\nthree")
+        shift, lines = self.file("shift", TEXT), self.file("lines", b"\xef\xbb\xbfone\r\ntwo\r\r\nthree")
         wanted = RECORD + b"and the lines\none\ntwo\r\nthree"
         for arguments, given in (((shift, lines), b""), (("-", lines), TEXT), ((shift, "-"), lines.read_bytes())):
             self.assertEqual(self.run_it("why", *arguments, given=given).stdout, wanted, arguments)
