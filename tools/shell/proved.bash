@@ -12,12 +12,16 @@ fail() { # STATUS SENTENCE
     exit "$1"
 }
 
-# Says which of the three descriptors is closed, before something else is opened in its place.
+# Finds out which of the three descriptors is closed, before something else is opened in its place. Whether standard input is asked for
+# shows later: `no_input` says that it is closed.
 look_at_descriptors() {
+    no_input=''
     { : 5>&2; } 2>/dev/null || exec 2>/dev/null
     { : 5>&1; } 2>/dev/null || fail 1 "standard output is closed."
-    { : 5<&0; } 2>/dev/null || fail 2 "standard input is closed."
+    { : 5<&0; } 2>/dev/null || { exec </dev/null; no_input=yes; }
 }
+
+need_input() { [ -z "$no_input" ] || fail 2 "standard input is closed."; }
 
 # The folder in crates/ that a word stands for, or the word itself where it is a folder.
 folder_of() { # WORD
