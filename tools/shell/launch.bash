@@ -60,13 +60,14 @@ whole_input() {
 }
 
 # The records of a text. The converter has read all of it, and told its errors, before it writes the first byte.
-converted_input() { whole_input | "$root/tools/records" --named "$name" -; }
+converted_input() { whole_input | "$root/tools/records" --named="$name" -; }
 
 # Makes a file standard input, where it is not that already; `name` is what messages call it.
 open_input() { # FILE
     name=$1
     if [ "$1" = - ]; then
         name='<stdin>'
+        need_input
         [ ! -d /dev/stdin ] || fail 2 "standard input is a directory, and no file of records."
         [ ! -t 0 ] || say "reading text from the terminal; Ctrl-D ends it."
         return
@@ -100,11 +101,11 @@ read_arguments() { # WORD MOST ARGUMENT ...
     shift 2
     files=()
     for argument; do
-        case $options$argument in
-        yes-h | yes--help) printf '%s\n\n%s\n' "$usage" "$READING"; exit ;;
-        yes--version) version "$word"; exit ;;
-        yes--) options= ;;
-        yes-?*) wrong_use "unknown option $argument" ;;
+        case $options:$argument in
+        yes:-h | yes:--help) printf '%s\n\n%s\n' "$usage" "$READING"; exit ;;
+        yes:--version) version "$word"; exit ;;
+        yes:--) options= ;;
+        yes:-?*) wrong_use "unknown option $argument" ;;
         *) files+=("$argument") ;;
         esac
     done
