@@ -1,8 +1,7 @@
 // Sentences about what happened: a refusal, a load, an exit from FAULT, a start, a stop. A sentence that is not to be said puts nothing.
 use crate::event::Event;
-use crate::words::put_cycle_field;
+use crate::words::put_field;
 use crate::words::put_setting;
-use crate::words::put_tick_field;
 use text::put;
 use text::put_decimal;
 
@@ -35,12 +34,7 @@ fn put_call(output: &mut [u8], at: usize, letter: u8) -> usize {
 
 fn put_reason(output: &mut [u8], at: usize, letter: u8, number: u8, place: u8) -> usize {
     match number {
-        1 => {
-            if letter == b'C' {
-                return put_cycle_field(output, at, place);
-            }
-            put_tick_field(output, at, place)
-        }
+        1 => put_field(output, at, letter, place),
         2 => put_setting(output, at, place),
         3 => put(output, at, b"in IDLE there are no settings: load first"),
         4 => put(output, at, b"outside IDLE and STOP: stop or clear first"),
