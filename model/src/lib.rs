@@ -19,11 +19,15 @@
 //! * `causes`    the causes that set flags,
 //! * `line`      the report line call,
 //! * `record`    records of the program,
-//! * `program`   the program itself.
+//! * `program`   the program itself,
+//! * `benchline` the bench program of the page on bench formats.
 //!
 //! The rest is for the comparison: `random` and `generator` make streams,
-//! `reached` counts what a stream reaches.
+//! `reached` counts what a stream reaches; `bench_stream` does both for
+//! `benchline`.
 
+pub mod bench_stream;
+pub mod benchline;
 pub mod causes;
 pub mod cycle;
 pub mod drive;

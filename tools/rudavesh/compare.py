@@ -1,6 +1,6 @@
-"""Runs the proved program and the independent model (model/, written from document 01 alone) over the
-same generated records, and counts the lines in which they differ. Default: 40 seeds of 25,000 records, and three of 150,000 for what is
-slow.
+"""Runs the proved programs, shiftline and benchline, and the independent model (model/, written from document 01 and the page on
+bench formats alone) over the same generated records, and counts the lines in which they differ. Default: 40 seeds of 25,000 records, and
+three of 150,000 for what is slow.
 Exit status: 0 no line differs; 1 some do, or a write failed; 2 wrong use, cargo or the kit is missing, or one of the programs failed."""
 
 import re
@@ -9,7 +9,7 @@ import subprocess
 import sys
 import tempfile
 from pathlib import Path
-from typing import List, Tuple
+from typing import Callable, List, NamedTuple, Tuple
 
 from . import model
 from .arguments import from_one, parser_of
@@ -17,13 +17,27 @@ from .places import TOOLS
 
 SEEDS, RECORDS = 40, 25_000
 LONG_SEEDS, LONG_RECORDS = (4, 7, 9), 150_000
-SHOWN_OF_REACHED = re.compile("streams|records|listed|counted|at zero")
+SHOWN_OF_REACHED = re.compile("streams|records|listed|counted|at zero|benchline")
 
 
-def proved(records: Path) -> bytes:
-    """The lines of the proved program."""
+class Compared(NamedTuple):
+    """A proved program by the tools' word for it, the records that it is run on, and its lines by the model."""
+
+    word: str
+    generated: Callable[[int, int], bytes]
+    lines: Callable[[bytes], bytes]
+
+
+BOTH = [
+    Compared("shiftline", model.generated, model.lines),
+    Compared("benchline", model.generated_for_bench, model.bench_lines),
+]
+
+
+def proved(word: str, records: Path) -> bytes:
+    """The lines of a proved program."""
     with records.open("rb") as stream:
-        return subprocess.run([TOOLS / "run", "shiftline"], stdin=stream, stdout=subprocess.PIPE, check=True).stdout
+        return subprocess.run([TOOLS / "run", word], stdin=stream, stdout=subprocess.PIPE, check=True).stdout
 
 
 def difference(expected: Path, found: Path) -> List[str]:
@@ -32,18 +46,18 @@ def difference(expected: Path, found: Path) -> List[str]:
     return done.stdout.decode("ascii", errors="replace").splitlines()
 
 
-def compare(work: Path, seed: int, records: int) -> Tuple[int, int]:
+def compare(work: Path, program: Compared, seed: int, records: int) -> Tuple[int, int]:
     """Lines compared, and lines that differ, of the stream of one seed."""
-    stream, by_model, by_program = work / f"records.{seed}.{records}", work / "model", work / "proved"
-    stream.write_bytes(model.generated(seed, records))
-    by_model.write_bytes(model.lines(stream.read_bytes()))
-    by_program.write_bytes(proved(stream))
+    stream, by_model, by_program = work / f"{program.word}.{seed}.{records}", work / "model", work / "proved"
+    stream.write_bytes(program.generated(seed, records))
+    by_model.write_bytes(program.lines(stream.read_bytes()))
+    by_program.write_bytes(proved(program.word, stream))
     compared = by_model.read_bytes().count(b"\n")
     if by_model.read_bytes() == by_program.read_bytes():
         return compared, 0
     told = difference(by_model, by_program)
     different = sum(line.startswith(("<", ">")) for line in told)
-    print(f"seed {seed}: {different} lines differ; the first:", *told[:4], sep="\n", flush=True)
+    print(f"{program.word}, seed {seed}: {different} lines differ; the first:", *told[:4], sep="\n", flush=True)
     return compared, different
 
 
@@ -64,8 +78,9 @@ def main() -> int:
     model.build()
     with tempfile.TemporaryDirectory() as folder:
         work = Path(folder)
-        counts = [compare(work, seed, records) for seed, records in todo]
-        print(*(line for line in model.reached(sorted(work.glob("records.*"))) if SHOWN_OF_REACHED.match(line)), sep="\n")
+        counts = [compare(work, program, seed, records) for program in BOTH for seed, records in todo]
+        reached = model.reached(sorted(work.glob("shiftline.*"))) + model.bench_reached(sorted(work.glob("benchline.*")))
+        print(*(line for line in reached if SHOWN_OF_REACHED.match(line)), sep="\n")
     different = sum(count for _, count in counts)
     print(f"{sum(count for count, _ in counts)} lines compared, {different} differences")
     return 1 if different else 0

@@ -31,6 +31,22 @@ def lines(stream: bytes) -> bytes:
     return subprocess.run([PROGRAMS / "shiftline_model"], input=stream, stdout=subprocess.PIPE, check=True).stdout
 
 
+def generated_for_bench(seed: int, records: int) -> bytes:
+    """The same for `benchline`: with loads of any length among the records."""
+    return subprocess.run([PROGRAMS / "generate_bench", str(seed), str(records)], stdout=subprocess.PIPE, check=True).stdout
+
+
+def bench_lines(stream: bytes) -> bytes:
+    """The lines that the model of `benchline` gives for a stream of records."""
+    return subprocess.run([PROGRAMS / "benchline_model"], input=stream, stdout=subprocess.PIPE, check=True).stdout
+
+
 def reached(streams: List[Path]) -> List[str]:
     """What streams reach, as the model counts it: its lines."""
     return subprocess.run([PROGRAMS / "reached", *streams], stdout=subprocess.PIPE, check=True, text=True).stdout.splitlines()
+
+
+def bench_reached(streams: List[Path]) -> List[str]:
+    """The same for `benchline`."""
+    done = subprocess.run([PROGRAMS / "reached_bench", *streams], stdout=subprocess.PIPE, check=True, text=True)
+    return done.stdout.splitlines()

@@ -15,7 +15,8 @@ use mir.Val.{SFits}
 use mir.Facts.{toZ-ofZ}
 use Rattle.numbers.proofs.Table.{at}
 use Rattle.numbers.proofs.Tests.{by-test}
-use Rattle.report.specs.Text.{text, digit, digits, sign}
+use Rattle.text.specs.Text.{text}
+use Rattle.report.specs.Text.{digit, digits, sign}
 use Rattle.lines.specs.Values.{valueOf, onward, value, signedOf}
 
 pub valueOf-below : (byte : ℕ) → valueOf byte < 16

@@ -11,7 +11,8 @@ use lib.ListN.{getD, take, drop, List·getD-append}
 use lib.Seq.{drop-append-add, getD-append-add, take-at}
 use Rattle.numbers.proofs.Table.{at}
 use Rattle.drive.specs.declared.answer.Answer.{Answer}
-use Rattle.report.specs.Text.{text, padded, sign, digits, signed}
+use Rattle.text.specs.Text.{text}
+use Rattle.report.specs.Text.{padded, sign, digits, signed}
 use Rattle.report.specs.Line.{names, name, line}
 use Rattle.report.proofs.Fields.{length-name}
 use Rattle.lines.specs.Values.{stateOf}

@@ -3,6 +3,7 @@
 use libc::EPIPE;
 use libc::STDIN_FILENO;
 use libc::STDOUT_FILENO;
+ghost use mathlib.Core.Bool.{true};
 ghost use mathlib.Core.Path.{_≡_};
 ghost use mathlib.Core.List.{_++_};
 ghost use Prim.Native.Nat.{min};
@@ -66,8 +67,14 @@ pub fn read_behind(bytes: &mut [u8], held: usize, what: &[u8]) -> Piece
     }
 }
 
-// Writes all of the bytes to standard output, and tells whether they were written. A failure is told under the name `what`.
-pub fn write_out(bytes: &[u8], what: &[u8]) -> bool {
+// Writes all of the bytes to standard output, and tells whether they were written; none always are. A failure is told under the name
+// `what`.
+pub fn write_out(bytes: &[u8], what: &[u8]) -> bool
+    ensures { λ r. ⌜ (length (now (bytes .entry)) ≡ 0 → r ≡ true) ⌝ }
+{
+    if bytes.len() == 0 {
+        return true;
+    }
     let written = io::write_all(STDOUT_FILENO, bytes);
     if !written {
         tell(what);

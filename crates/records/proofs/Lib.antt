@@ -1,4 +1,5 @@
 pub mod Parts
+pub mod Numbers
 pub mod Sizes
 pub mod Printed
 pub mod MoreBytes

@@ -34,13 +34,13 @@ both true p q = p
 both false p q = q
 
 module _ (a b : List ℕ) where
-  byte-kept : (i : ℕ) → i < length a → byte i (a ++ b) ≡ byte i a
+  pub byte-kept : (i : ℕ) → i < length a → byte i (a ++ b) ≡ byte i a
   byte-kept i inside = List·getD-append a b 0 i inside
 
   number-kept : (at : ℕ) → at + 1 < length a → number at (a ++ b) ≡ number at a
   number-kept at inside = rw (byte-kept at (omega arith), byte-kept (at + 1) inside)
 
-  numbers-kept : (count at : ℕ) → at + 2 * count ≤ length a → numbers count at (a ++ b) ≡ numbers count at a
+  pub numbers-kept : (count at : ℕ) → at + 2 * count ≤ length a → numbers count at (a ++ b) ≡ numbers count at a
   unfolding numbers
   numbers-kept zero at inside = refl
   numbers-kept (suc count) at inside = rw (number-kept at (omega arith), numbers-kept count (at + 2) (omega arith))

@@ -5,7 +5,8 @@ use Prim.Native.String.{String}
 use mathlib.Core.List.{List, [], _∷_, _++_}
 use lib.ListN.{length, getD, drop}
 use Rattle.drive.specs.declared.answer.Answer.{Answer}
-use Rattle.report.specs.Text.{text, padded, digits, signed}
+use Rattle.text.specs.Text.{text}
+use Rattle.report.specs.Text.{padded, digits, signed}
 use Rattle.report.specs.Refusals.{lineLength, accepts}
 
 -- the states by their numbers, 0 to 9

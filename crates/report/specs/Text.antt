@@ -1,18 +1,12 @@
--- Texts as bytes, and numbers as texts.
+-- Numbers and names as texts of one width.
 use mathlib.Core.Bool.{cond}
 use Prim.Native.Nat.{ℕ, zero, suc, _/_, _%_}
 use Prim.Native.Char.{code}
-use Prim.Native.String.{String}
-use Prim.Native.String.{[] as none, _∷_ as then}
 use mathlib.Core.List.{List, [], _∷_, _++_}
 use lib.IntN.{ℤ, pos, natAbs}
 use lib.ListN.{getD, take, replicate}
 use lib.Signed.{ltZ}
-
--- the bytes of a text, in ASCII
-abbrev pub text : String → List ℕ
-text none = []
-text (then c s) = code c ∷ text s
+use Rattle.text.specs.Text.{text}
 
 -- "padded with full stops to twelve": full stops follow, up to the width
 abbrev pub padded : ℕ → List ℕ → List ℕ

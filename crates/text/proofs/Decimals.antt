@@ -74,3 +74,24 @@ pub length-signed : (k : ℕ) (z : ℤ) → 0 < k → natAbs z < 10 ^ k → leng
 unfolding signedDecimal
 length-signed k (pos n) some small = omega (arith, length-decimal k n some small)
 length-signed k (negsuc n) some small = omega (arith, length-decimal k (suc n) some small)
+
+-- and whatever the number is
+module _ (most : ℕ) (shorter : (n : ℕ) → length (decimals most n) ≤ most) where
+  one-more : (n : ℕ) (test : Bool) → ltb n 10 ≡ test → length (decimals (suc most) n) ≤ suc most
+  unfolding decimals
+  one-more n true e = rw e (omega arith)
+  one-more n false e = rw (e, length-append) (omega (arith, shorter (n / 10)))
+
+at-most : (most n : ℕ) → length (decimals most n) ≤ most
+unfolding decimals
+at-most zero n = omega arith
+at-most (suc most) n = one-more most (at-most most) n (ltb n 10) refl
+
+pub at-most-twenty : (n : ℕ) → length (decimal n) ≤ 20
+unfolding decimal
+at-most-twenty = at-most 20
+
+pub at-most-twenty-one : (z : ℤ) → length (signedDecimal z) ≤ 21
+unfolding signedDecimal
+at-most-twenty-one (pos n) = omega (arith, at-most-twenty n)
+at-most-twenty-one (negsuc n) = omega (arith, at-most-twenty (suc n))

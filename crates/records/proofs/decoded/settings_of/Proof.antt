@@ -1,28 +1,16 @@
 -- `settings_of` has filled its array up to `i` with the numbers of the definition; at the end it is full.
-use mathlib.Core.Path.{_≡_, refl, ap, _∙_}
-use mathlib.Core.List.{List}
-use Prim.Native.Nat.{ℕ, zero, suc, _+_, _*_, _-_, _≤_, _<_}
+use mathlib.Core.Path.{_≡_, refl, _∙_}
+use Prim.Native.Nat.{_-_, _≤_}
 use native.Mathlib.Omega.{arith}
-use lib.ListN.{length, getD, replicate, length-set}
+use lib.ListN.{length, replicate, length-set}
 use denote.Ref.{now}
 use borrow.Author.Needs.{needs}
 use Rattle.numbers.proofs.Fill.{filled, filled-more, filled-all}
 use Rattle.settings.specs.Settings.{settingCount}
-use Rattle.records.specs.Decoded.{number, numbers, loadSize, settingsOf}
+use Rattle.records.specs.Decoded.{loadSize, settingsOf}
+use Rattle.records.proofs.Numbers.{length-numbers, number-at}
 use Rattle.records.proofs.decoded.settings_of.Statement.{statement}
 use Rattle.records.proofs.decoded.settings_of.Tie as tie
-
-length-numbers : (count at : ℕ) (bytes : List ℕ) → length (numbers count at bytes) ≡ count
-unfolding numbers
-length-numbers zero at bytes = refl
-length-numbers (suc count) at bytes = ap suc (length-numbers count (at + 2) bytes)
-
--- the k-th number stands 2k bytes after the first
-number-at : (count at : ℕ) (bytes : List ℕ) (k : ℕ) → k < count → number (at + 2 * k) bytes ≡ getD (numbers count at bytes) k 0
-unfolding numbers
-number-at (suc count) at bytes zero below = ap (λ (place : ℕ). number place bytes) (omega arith)
-number-at (suc count) at bytes (suc k) below =
-    ap (λ (place : ℕ). number place bytes) (omega arith) ∙ number-at count (at + 2) bytes k (omega arith)
 
 abbrev Inv-loop : tie.InvT-loop
 Inv-loop bytes settings₀ i₀ settings i =

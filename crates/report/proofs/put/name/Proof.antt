@@ -7,7 +7,8 @@ use mathlib.Core.Path.{_≡_, refl}
 use mathlib.Core.List.{List, [], _∷_, map}
 use lib.ListN.{length, getD}
 use borrow.Author.Needs.{needs}
-use Rattle.report.specs.Text.{text, padded}
+use Rattle.text.specs.Text.{text}
+use Rattle.report.specs.Text.{padded}
 use Rattle.report.specs.Line.{names}
 use Rattle.report.proofs.put.name.Statement.{statement}
 use Rattle.report.proofs.put.name.Tie as tie

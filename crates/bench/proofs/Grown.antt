@@ -1,0 +1,70 @@
+-- What stands at the front of bytes stands there, too, when more have come behind them, unless it was no byte or a part of a record: N
+-- asks its letter, its count and the length alone, and the others are read as `shiftline` reads them.
+use mathlib.Core.Path.{_≡_, refl}
+use mathlib.Core.Bool.{Bool, true, false, cond}
+use mathlib.Core.List.{List, [], _∷_, _++_}
+use Prim.Native.Nat.{ℕ, _-_, _≤_, max}
+use Prim.Native.Char.{code}
+use native.Mathlib.Omega.{arith}
+use lib.Dec.{eqb, ltb}
+use lib.ListN.{length, length-append}
+use borrow.Author.Tests.{ltb-true, ltb-false, le-ltb}
+use Rattle.records.specs.Decoded.{byte, numbers}
+use Rattle.records.specs.Front as shiftline
+use Rattle.records.proofs.MoreBytes as shiftline-grown
+use Rattle.records.proofs.MoreBytes.{byte-kept, numbers-kept}
+use Rattle.records.proofs.Numbers.{length-numbers}
+use Rattle.streams.specs.Run.{Front, end, unknown, short, whole}
+use Rattle.bench.specs.Table.{Record, as-in-shiftline, numbered, numberedSize, sizeOf, asShiftline, numberedFront, front}
+
+-- the record is read off the bytes
+abbrev pub ReadOff : List ℕ → Record → Type 0
+ReadOff bytes (as-in-shiftline call) = shiftline-grown.ReadOff bytes call
+ReadOff bytes (numbered given) = given ≡ numbers (byte 1 bytes) 2 bytes
+
+-- how many bytes a part of a record can have, by its count
+abbrev pub mostOf : List ℕ → ℕ
+mostOf bytes = max shiftline.mostHeld (numberedSize (byte 1 bytes) - 1)
+
+-- what stands at the front of the bytes `a`, and what stands there when more have come
+pub data Grown (a : List ℕ) : Front Record → Front Record → Type 0 where
+  no-byte : {g : Front Record} → length a ≡ 0 → Grown a end g
+  no-record : Grown a unknown unknown
+  a-part : {g : Front Record} → length a ≤ mostOf a → Grown a short g
+  a-record : (r : Record) → ReadOff a r → sizeOf r ≤ length a → Grown a (whole r) (whole r)
+
+as-before : (a : List ℕ) (f g : shiftline.Front) → shiftline-grown.Grown a f g → Grown a (asShiftline f) (asShiftline g)
+as-before a shiftline.end g (shiftline-grown.no-byte none) = no-byte none
+as-before a shiftline.unknown shiftline.unknown shiftline-grown.no-record = no-record
+as-before a shiftline.short g (shiftline-grown.a-part few) = a-part (omega arith)
+as-before a (shiftline.whole _) (shiftline.whole _) (shiftline-grown.a-record call off all) = a-record (as-in-shiftline call) off all
+
+module _ (a b : List ℕ) where
+  numbered-grown : (few : Bool) → ltb (length a) (numberedSize (byte 1 a)) ≡ few → Grown a (numberedFront a) (numberedFront (a ++ b))
+  numbered-grown true e = rw e (a-part (omega (arith, ltb-true (length a) (numberedSize (byte 1 a)) e)))
+  numbered-grown false e =
+      let all : numberedSize (byte 1 a) ≤ length a = ltb-false (length a) (numberedSize (byte 1 a)) e in
+      let enough : numberedSize (byte 1 a) ≤ length (a ++ b) = omega (arith, all, length-append a b) in
+      let size : sizeOf (numbered (numbers (byte 1 a) 2 a)) ≤ length a = rw (length-numbers (byte 1 a) 2 a) all in
+      rw (
+        e,
+        byte-kept a b 1 (omega (arith, all)),
+        le-ltb (length (a ++ b)) (numberedSize (byte 1 a)) enough,
+        numbers-kept a b (byte 1 a) 2 all,
+      )
+      (a-record (numbered (numbers (byte 1 a) 2 a)) refl size)
+
+  by-letter : (test : Bool)
+      → Grown a (cond test (numberedFront a) (asShiftline (shiftline.front a)))
+      (cond test (numberedFront (a ++ b)) (asShiftline (shiftline.front (a ++ b))))
+  by-letter true = numbered-grown (ltb (length a) (numberedSize (byte 1 a))) refl
+  by-letter false = as-before a (shiftline.front a) (shiftline.front (a ++ b)) (shiftline-grown.grown a b)
+
+pub no-front : front [] ≡ end
+unfolding front shiftline.front
+no-front = refl
+
+pub grown : (a b : List ℕ) → Grown a (front a) (front (a ++ b))
+unfolding front
+grown [] b = rw no-front (no-byte refl)
+grown (x ∷ l) b = by-letter (x ∷ l) b (eqb x (code "N"))

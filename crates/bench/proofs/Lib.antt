@@ -1,0 +1,7 @@
+pub mod Grown
+pub mod Meaning
+pub mod Lengths
+pub mod Laws
+pub mod Stream
+-- Of the promises themselves.
+pub mod OneReply

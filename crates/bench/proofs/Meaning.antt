@@ -1,0 +1,58 @@
+-- What the reader's answer says of the bytes that it read: by what stands at their front.
+use mathlib.Core.Path.{_≡_, refl, sym, subst, ap, _∙_}
+use mathlib.Core.List.{List, []}
+use Prim.Native.Nat.{ℕ, _+_, _*_, _≤_, _<_}
+use native.Mathlib.Omega.{arith}
+use lib.ListN.{length}
+use Rattle.drive.specs.AnyCall.{loads, cycles, ticks}
+use Rattle.settings.specs.Settings.{settingCount}
+use Rattle.records.specs.Decoded.{byte, numbers, loadSize, settingsOf}
+use Rattle.records.proofs.Numbers.{length-numbers}
+use Rattle.streams.specs.Run.{Front, end, unknown, short, whole}
+use Rattle.bench.specs.Table.{Record, as-in-shiftline, numbered, callOf, numberedSize, sizeOf, front, found}
+use Rattle.bench.specs.declared.find.Found.{Found}
+use Rattle.bench.specs.declared.find.Found.the-variants.{End, Unknown, Short, Load, Cycle, Tick}
+use Rattle.bench.proofs.Grown.{Grown, no-byte, no-record, a-part, a-record, grown}
+
+-- a load of so many numbers from a place of the record on
+pub record Loads (bytes : List ℕ) (first count : ℕ) : Type 0 where
+  pub some : 0 < first
+  pub it : Record
+  pub is : front bytes ≡ whole it
+  pub asks : callOf it ≡ loads (numbers count first bytes)
+  pub size : sizeOf it ≡ first + 2 * count
+  pub inside : first + 2 * count ≤ length bytes
+
+abbrev pub Meaning : List ℕ → Found → Type 0
+Meaning bytes End = front bytes ≡ end
+Meaning bytes Unknown = front bytes ≡ unknown
+Meaning bytes Short = front bytes ≡ short
+Meaning bytes (Load first count) = Loads bytes first count
+Meaning bytes (Cycle fields) = front bytes ≡ whole (as-in-shiftline (cycles fields))
+Meaning bytes (Tick fields) = front bytes ≡ whole (as-in-shiftline (ticks fields))
+
+module _ (bytes given : List ℕ) where
+  loaded : given ≡ settingsOf bytes → loadSize ≤ length bytes → front bytes ≡ whole (as-in-shiftline (loads given))
+      → Loads bytes 1 settingCount
+  unfolding settingsOf
+  loaded off all is =
+      record { some = omega arith; it = as-in-shiftline (loads given); is = is; asks = ap loads off; size = refl; inside = all }
+
+  counted : given ≡ numbers (byte 1 bytes) 2 bytes → numberedSize (length given) ≤ length bytes
+      → front bytes ≡ whole (numbered given)
+      → Loads bytes 2 (length given)
+  counted off all is =
+      let many : length given ≡ byte 1 bytes = ap length off ∙ length-numbers (byte 1 bytes) 2 bytes in
+      record { some = omega arith; it = numbered given; is = is; asks = ap loads (off ∙ rw many); size = refl; inside = all }
+
+pub meaning : (bytes : List ℕ) (said : Found) → said ≡ found (front bytes) → Meaning bytes said
+meaning bytes said e = subst (Meaning bytes) (sym e) (go (front bytes) (grown bytes []) refl)
+  where
+    go : (f : Front Record) {g : Front Record} → Grown bytes f g → front bytes ≡ f → Meaning bytes (found f)
+    go end (no-byte _) is = is
+    go unknown no-record is = is
+    go short (a-part _) is = is
+    go (whole _) (a-record (as-in-shiftline (loads given)) off all) is = loaded bytes given off all is
+    go (whole _) (a-record (as-in-shiftline (cycles fields)) _ _) is = is
+    go (whole _) (a-record (as-in-shiftline (ticks fields)) _ _) is = is
+    go (whole _) (a-record (numbered given) off all) is = counted bytes given off all is

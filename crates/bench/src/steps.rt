@@ -1,0 +1,96 @@
+// One record: the call that it asks for, and the line of its reply.
+use crate::LINE_ROOM;
+use crate::Ran;
+use crate::find::Found;
+use crate::find::find;
+use crate::line::motor_line;
+use crate::line::refusal_line;
+use crate::numbered::numbers_of;
+use drive::Drive;
+use drive::answer::Reply;
+use records::CYCLE_SIZE;
+use records::TICK_SIZE;
+ghost use mathlib.Core.Path.{_≡_};
+ghost use mathlib.Core.Bool.{false};
+ghost use Prim.Native.Nat.{_≤_};
+ghost use lib.ListN.{length, drop};
+ghost use Rattle.streams.specs.Run.{rest, lined, refused, runs, outputAfter};
+ghost use Rattle.bench.specs.Line.{lineRoom, motorLine};
+ghost use Rattle.bench.specs.Benchline.{benchline, ranOf};
+
+// Nothing is taken and nothing written.
+pub(crate) fn resting(drive: Drive) -> Ran
+    ensures { λ r. ⌜ r ≡ ranOf (rest drive) ⌝ }
+{
+    Ran {
+        drive,
+        taken: 0,
+        written: 0,
+        ended: false,
+    }
+}
+
+// The line of a reply, for so many bytes.
+fn answering(reply: Reply, taken: usize, output: &mut [u8]) -> Ran
+    requires { ⌜ lineRoom ≤ length (now output) ⌝ }
+    ensures result { λ r. ⌜ r ≡ ranOf (lined (motorLine (reply .answer)) (reply .drive) taken false) ⌝ }
+    ensures lent { λ _. ⌜ now (output .exit)
+        ≡ outputAfter (lined (motorLine (reply .answer)) (reply .drive) taken false) (now (output .entry)) ⌝ }
+{
+    let drive = reply.drive;
+    let answer = reply.answer;
+    let written = motor_line(answer, output);
+    Ran {
+        drive,
+        taken,
+        written,
+        ended: false,
+    }
+}
+
+// A line `?` leaves the drive as it is, and ends the run.
+fn refusing(drive: Drive, output: &mut [u8]) -> Ran
+    requires { ⌜ lineRoom ≤ length (now output) ⌝ }
+    ensures result { λ r. ⌜ r ≡ ranOf (refused benchline drive) ⌝ }
+    ensures lent { λ _. ⌜ now (output .exit) ≡ outputAfter (refused benchline drive) (now (output .entry)) ⌝ }
+{
+    let written = refusal_line(output);
+    Ran {
+        drive,
+        taken: 0,
+        written,
+        ended: true,
+    }
+}
+
+// One record at most: the run with fuel for one.
+pub(crate) fn step(drive: Drive, input: &[u8], at: usize, closed: bool, output: &mut [u8]) -> Ran
+    ensures result { λ r. ⌜ r
+        ≡ ranOf (runs benchline 1 closed (length (now (output .entry))) (drop at (now (input .entry))) drive) ⌝ }
+    ensures lent { λ _. ⌜ now (output .exit)
+        ≡ outputAfter (runs benchline 1 closed (length (now (output .entry))) (drop at (now (input .entry))) drive)
+        (now (output .entry)) ⌝ }
+{
+    if output.len() < LINE_ROOM {
+        return resting(drive);
+    }
+    match find(input, at) {
+        Found::End => resting(drive),
+        Found::Unknown => refusing(drive, output),
+        Found::Short => {
+            if closed {
+                refusing(drive, output)
+            } else {
+                resting(drive)
+            }
+        }
+        Found::Load(first, count) => {
+            let first = first as usize;
+            let count = count as usize;
+            let numbers = numbers_of(&input[at..], first, count);
+            answering(drive.load(&numbers[..count]), first + 2 * count, output)
+        }
+        Found::Cycle(fields) => answering(drive.cycle(fields), CYCLE_SIZE, output),
+        Found::Tick(fields) => answering(drive.tick(fields), TICK_SIZE, output),
+    }
+}
