@@ -2,6 +2,7 @@
 // the onlooker of demand 3 hears each call with its answer; here are only the words and the moving of bytes.
 mod event;
 mod happened;
+mod hear;
 mod shown;
 mod watch;
 mod words;

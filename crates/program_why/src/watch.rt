@@ -8,6 +8,9 @@ use crate::happened::put_loaded;
 use crate::happened::put_refused;
 use crate::happened::put_start;
 use crate::happened::put_stop;
+use crate::hear::hear_cycle;
+use crate::hear::hear_load;
+use crate::hear::hear_tick;
 use crate::shown::put_gates;
 use crate::shown::put_live;
 use crate::shown::put_trip;
@@ -99,10 +102,10 @@ pub(crate) fn step(
         },
         Found::Load => {
             let numbers = settings_at(input, at);
-            let reply = drive.load_settings(numbers);
-            let drive = reply.drive;
-            let answer = reply.answer;
-            let onlooker = before.load(numbers, answer);
+            let heard = hear_load(drive, before, numbers);
+            let drive = heard.drive;
+            let onlooker = heard.onlooker;
+            let answer = heard.answer;
             Watch {
                 drive,
                 onlooker,
@@ -112,10 +115,10 @@ pub(crate) fn step(
             }
         }
         Found::Cycle(fields) => {
-            let reply = drive.cycle(fields);
-            let drive = reply.drive;
-            let answer = reply.answer;
-            let onlooker = before.cycle(fields, answer);
+            let heard = hear_cycle(drive, before, fields);
+            let drive = heard.drive;
+            let onlooker = heard.onlooker;
+            let answer = heard.answer;
             Watch {
                 drive,
                 onlooker,
@@ -125,10 +128,10 @@ pub(crate) fn step(
             }
         }
         Found::Tick(fields) => {
-            let reply = drive.tick(fields);
-            let drive = reply.drive;
-            let answer = reply.answer;
-            let onlooker = before.tick(fields, answer);
+            let heard = hear_tick(drive, before, fields);
+            let drive = heard.drive;
+            let onlooker = heard.onlooker;
+            let answer = heard.answer;
             Watch {
                 drive,
                 onlooker,
