@@ -1,3 +1,4 @@
 pub mod NextLine
 pub mod Judged
 pub mod Run
+pub mod Sentences

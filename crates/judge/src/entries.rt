@@ -72,7 +72,7 @@ fn pick_onlooker(test: bool, yes: Onlooker, no: Onlooker) -> Onlooker
 }
 
 // One more, and at most what 64 bits hold.
-fn one_more(count: u64) -> u64
+pub(crate) fn one_more(count: u64) -> u64
     ensures { λ r. ⌜ r ≡ up most count ⌝ }
 {
     if count < u64::MAX { count + 1 } else { count }
