@@ -1,6 +1,7 @@
-"""tools/compare [SEEDS [RECORDS]]: runs the proved program and the independent model (model/, written from document 01 alone) over the
+"""Runs the proved program and the independent model (model/, written from document 01 alone) over the
 same generated records, and counts the lines in which they differ. Default: 40 seeds of 25,000 records, and three of 150,000 for what is
-slow."""
+slow.
+Exit status: 0 no line differs; 1 some do, or a write failed; 2 wrong use, cargo or the kit is missing, or one of the programs failed."""
 
 import re
 import shutil
@@ -11,7 +12,8 @@ from pathlib import Path
 from typing import List, Tuple
 
 from . import model
-from .places import ROOT
+from .arguments import from_one, parser_of
+from .places import TOOLS
 
 SEEDS, RECORDS = 40, 25_000
 LONG_SEEDS, LONG_RECORDS = (4, 7, 9), 150_000
@@ -21,7 +23,7 @@ SHOWN_OF_REACHED = re.compile("streams|records|listed|counted|at zero")
 def proved(records: Path) -> bytes:
     """The lines of the proved program."""
     with records.open("rb") as stream:
-        return subprocess.run([ROOT / "shiftline"], stdin=stream, stdout=subprocess.PIPE, check=True).stdout
+        return subprocess.run([TOOLS / "run", "shiftline"], stdin=stream, stdout=subprocess.PIPE, check=True).stdout
 
 
 def difference(expected: Path, found: Path) -> List[str]:
@@ -46,19 +48,18 @@ def compare(work: Path, seed: int, records: int) -> Tuple[int, int]:
 
 
 def main() -> int:
-    given = sys.argv[1:]
-    if any(not word.isdigit() for word in given) or len(given) > 2:
-        print(__doc__)
-        return 0 if given[0] in ("-h", "--help") else 2
+    parser = parser_of("compare", __doc__)
+    parser.add_argument("seeds", nargs="?", type=from_one, metavar="SEEDS", help=f"streams to compare ({SEEDS})")
+    parser.add_argument("records", nargs="?", type=from_one, default=RECORDS, metavar="RECORDS", help=f"records of each ({RECORDS:,})")
+    given = parser.parse_args()
     if not model.can_be_built():
         print(model.NO_CARGO, file=sys.stderr)
         return 2
     if not shutil.which("rt"):
         print("The Rattle kit is missing: its command rt is not on the PATH.", file=sys.stderr)
         return 2
-    seeds, records = [int(word) for word in given] + [SEEDS, RECORDS][len(given) :]
-    todo = [(seed, records) for seed in range(1, seeds + 1)]
-    if not given:
+    todo = [(seed, given.records) for seed in range(1, (given.seeds or SEEDS) + 1)]
+    if given.seeds is None:
         todo += [(seed, LONG_RECORDS) for seed in LONG_SEEDS]
     model.build()
     with tempfile.TemporaryDirectory() as folder:

@@ -1,17 +1,16 @@
 """How long the last check took and how big each crate is, as the table that a landing's note carries.
 
-tools/measure
-tools/measure --totals
-
 Reads what `rt ci` left under target/. `rt check` leaves the same but for the edits; a crate that it found unchanged has no time.
 Lines are without blank ones and comments. An edit's time is the mean over the crate's must-fail edits.
---totals needs no check: lines of all crates together, and the longest line and the files over 300 lines of crates, model and tools."""
+--totals needs no check: lines of all crates together, and the longest line and the files over 300 lines of crates, model and tools.
+Exit status: 0 printed; 1 a write failed; 2 wrong use, or nothing is checked yet."""
 
 import re
 import sys
 from pathlib import Path
 from typing import List, Union
 
+from .arguments import parser_of
 from .places import ROOT, crate_folder, crates_of
 from .sources import lines_of, written_files
 
@@ -74,12 +73,11 @@ def totals(root: Path) -> List[str]:
 
 def main() -> int:
     """Prints the table, or that of the totals."""
-    if sys.argv[1:] == ["--totals"]:
+    parser = parser_of("measure", __doc__)
+    parser.add_argument("--totals", action="store_true", help="the totals alone")
+    if parser.parse_args().totals:
         print(TOTALS_HEAD, *totals(ROOT), sep="\n")
         return 0
-    if len(sys.argv) > 1:
-        print(__doc__)
-        return 0 if sys.argv[1] in ("-h", "--help") else 2
     if not (ROOT / "target" / "log").exists():
         print("Nothing is checked here yet: run `rt ci` first, and `tools/measure` then reads what it left.", file=sys.stderr)
         return 2

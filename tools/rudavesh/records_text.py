@@ -1,6 +1,7 @@
 """The readable text form of records: reads it, with its errors, and writes the records."""
 
 import difflib
+import io
 import re
 from dataclasses import dataclass, field
 from typing import BinaryIO, Dict, List, NamedTuple, Tuple, Union
@@ -8,6 +9,7 @@ from typing import BinaryIO, Dict, List, NamedTuple, Tuple, Union
 from .record_form import KINDS, LIMITS, LOAD, TICK, Kind
 
 DEEPEST_BLOCK = 16
+PIECE = 65536  # bytes of a repeat that are made and written at once
 COUNT = (1, 1_000_000_000, "repeat")
 KIND_OF_WORD = {word: kind for kind in KINDS for word in (kind.word, kind.letter.lower())}
 WORDS = [kind.word for kind in KINDS] + ["raw", "repeat"]
@@ -30,7 +32,8 @@ DESCRIPTION = f"""The text has one record to a line; '#' begins a comment:
 Numbers are decimal or 0x hexadecimal. A value that fits the bytes of its record is
 written even where the paper forbids it: refusing it is the supervisor's work.
 An error is told as FILE:LINE:COLUMN: and leaves standard output empty.
-Exit status: 0 written, 1 errors in the text, 2 wrong use or unreadable file.
+Exit status: 0 written, or until whoever reads had enough; 1 errors in the text, or a write that
+failed; 2 wrong use, an unreadable file, or text in UTF-16.
 """
 
 
@@ -192,19 +195,44 @@ def read_text(text: str) -> Tuple[Repeat, List[Tuple[int, int, str]]]:
     return blocks[0], sorted(errors)
 
 
+def write_body(body: list, kept: Dict[str, List[int]], output: BinaryIO) -> None:
+    """Write each step once."""
+    for step in body:
+        if isinstance(step, Repeat):
+            write_repeat(step, kept, output)
+        elif isinstance(step, bytes):
+            output.write(step)
+        else:
+            kind = step.kind
+            values = kept[kind.word] if kind.keeps else kind.defaults
+            for place, value in step.given.items():
+                values[place] = value
+            output.write(kind.packed(*values))
+
+
+def size_of(body: list) -> int:
+    """How many bytes a body writes."""
+    sizes = (step.count * size_of(step.body) if isinstance(step, Repeat) else len(step) if isinstance(step, bytes) else step.kind.size
+             for step in body)  # fmt: skip
+    return sum(sizes)
+
+
 def write_repeat(repeat: Repeat, kept: Dict[str, List[int]], output: BinaryIO) -> None:
-    for _ in range(repeat.count):
-        for step in repeat.body:
-            if isinstance(step, Repeat):
-                write_repeat(step, kept, output)
-            elif isinstance(step, bytes):
-                output.write(step)
-            else:
-                kind = step.kind
-                values = kept[kind.word] if kind.keeps else kind.defaults
-                for place, value in step.given.items():
-                    values[place] = value
-                output.write(kind.packed(*values))
+    """Write a body so many times. What a field keeps it has after the first time, so all that follow are alike: where they are short
+    they are made once and written many at a time."""
+    write_body(repeat.body, kept, output)
+    left = repeat.count - 1
+    if left < 2 or size_of(repeat.body) > PIECE:
+        for _ in range(left):
+            write_body(repeat.body, kept, output)
+        return
+    made = io.BytesIO()
+    write_body(repeat.body, kept, made)
+    once = made.getvalue()
+    many = max(1, PIECE // len(once))
+    for _ in range(left // many):
+        output.write(once * many)
+    output.write(once * (left % many))
 
 
 def write_text(whole: Repeat, output: BinaryIO) -> None:

@@ -25,9 +25,13 @@ def called_crates(root: Path = places.ROOT) -> List[str]:
     return [name for name in crates if name in known and lines_of(places.crate_folder(name, root) / "src")]
 
 
+def is_shell(file: Path) -> bool:
+    return file.suffix in ("", ".bash")
+
+
 def written_files(root: Path = places.ROOT) -> List[Path]:
-    """The files that people write in the crates, the model and the tools: Rattle, Rust, Python and the commands without an ending."""
+    """The files that people write in the crates, the model and the tools: Rattle, Rust, Python, and the commands and what they share."""
     model, tools = root / "model", root / "tools"
-    commands = [file for file in sorted(tools.glob("*")) if file.is_file() and not file.suffix]
+    commands = [file for folder in (tools, tools / "shell") for file in sorted(folder.glob("*")) if file.is_file() and is_shell(file)]
     rust = [file for part in ("src", "tests") for file in sorted((model / part).glob("**/*.rs"))]
     return rattle_files(root / "crates") + rust + sorted(tools.glob("**/*.py")) + commands

@@ -1,16 +1,16 @@
 """Rewrites what the programs of the gate read and must print: stdin and stdout beside their sources.
 
-tools/stored            rewrites all of them
-tools/stored --check    rewrites nothing, names each file that is not as it would be written, and then exits with 1
-
 What a program must print is worked out from document 01 or by the independent model (rudavesh/expected), never by the program.
-Needs cargo, which builds the model."""
+Needs cargo, which builds the model.
+Exit status: 0 rewritten, or with --check all as they would be written; 1 with --check some are not,
+or a write failed; 2 wrong use, or no model."""
 
 import sys
 from pathlib import Path
 from typing import Callable, Dict, List, NamedTuple
 
 from . import model
+from .arguments import parser_of
 from .expected import Files, generated, hall_pairs, refusals, report_lines, shiftline_example, splits
 from .places import ROOT, program_folder
 
@@ -44,16 +44,15 @@ def stale(word: str) -> List[Path]:
 
 
 def main() -> int:
-    given = sys.argv[1:]
-    if given not in ([], ["--check"]):
-        print(__doc__)
-        return 0 if given[0] in ("-h", "--help") else 2
+    parser = parser_of("stored", __doc__)
+    parser.add_argument("--check", action="store_true", help="rewrite nothing, and name each file that is not as it would be written")
+    only_check = parser.parse_args().check
     if not model.can_be_built():
         print(model.NO_CARGO, file=sys.stderr)
         return 2
     model.build()
     found = [file for word in STORED for file in stale(word)]
-    if given:
+    if only_check:
         for file in found:
             print(f"{file.relative_to(ROOT)} is not as it would be written: tools/stored rewrites it.")
         return 1 if found else 0

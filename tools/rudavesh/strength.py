@@ -1,16 +1,14 @@
 """How strong the promises are: changes one token of a crate's code at a time, and asks the prover about each change.
 
-tools/strength [--list] [--every N] [CRATE ...]
-
 A change is an operator, a number up by one, a truth value, a test denied, the last byte of a text, a field read in place of its
 neighbour, or a store dropped (a field left as it was). A public constant is left alone: the crates above hold it, not its own.
 A change that the prover refuses did not get through: a promise rules it out, or the prover does not cover the changed code, or a
 proof file no longer fits it; these are counted as one. One that it accepts (a survivor) is a gap in a promise, or an equal program.
 One that leaves no program, since its types do not fit, shows nothing.
 Without CRATE: every crate with code that others call. --list shows the changes and asks nothing; --every N asks about each N-th.
-The exit status is 1 where a change survives."""
+Exit status: 0 none survived, or listed; 1 some did, or a write failed; 2 wrong use, the kit is missing, or the crates are
+not proved as they stand."""
 
-import argparse
 import re
 import shutil
 import subprocess
@@ -21,7 +19,8 @@ from dataclasses import dataclass
 from pathlib import Path
 from queue import Queue
 
-from .places import ROOT, crate_folder
+from .arguments import from_one, parser_of
+from .places import ROOT, crate_folder, crates_of
 from .sources import called_crates
 
 WORKERS = 2
@@ -149,12 +148,16 @@ def asked(change: Change, place: Path) -> str:
 
 def main() -> int:
     """Asks about every change and reports."""
-    parser = argparse.ArgumentParser(description=__doc__, formatter_class=argparse.RawDescriptionHelpFormatter)
+    parser = parser_of("strength", __doc__)
     parser.add_argument("--list", action="store_true", help="show the changes and ask nothing")
-    parser.add_argument("--every", type=int, default=1, metavar="N", help="ask about each N-th change")
-    parser.add_argument("crate", nargs="*", default=called_crates())
+    parser.add_argument("--every", type=from_one, default=1, metavar="N", help="ask about each N-th change")
+    parser.add_argument("crate", nargs="*", metavar="CRATE", help="crates of crates.txt")
     chosen = parser.parse_args()
-    todo = [change for crate in chosen.crate for change in changes(crate)][:: chosen.every]
+    for crate in chosen.crate:
+        if crate not in crates_of(ROOT):
+            parser.error(f"crates.txt lists no {crate}")
+    crates = chosen.crate or called_crates()
+    todo = [change for crate in crates for change in changes(crate)][:: chosen.every]
     if chosen.list:
         print(*todo, sep="\n")
         print(f"{len(todo)} changes")
@@ -168,7 +171,7 @@ def main() -> int:
         places: Queue[Path] = Queue()
         first = Path(folder) / "1"
         shutil.copytree(ROOT, first, ignore=shutil.ignore_patterns(".git", "model"))
-        subprocess.run(["rt", "check", *chosen.crate], cwd=first, stdout=subprocess.DEVNULL, check=True)
+        subprocess.run(["rt", "check", *crates], cwd=first, stdout=subprocess.DEVNULL, check=True)
         places.put(first)
         for number in range(2, WORKERS + 1):
             places.put(Path(shutil.copytree(first, Path(folder) / str(number))))

@@ -1,22 +1,29 @@
 """tools/strip: draws report lines as a strip chart."""
 
-import argparse
-import os
 import sys
-from typing import List
+from typing import Any, Callable, Iterable, List, Optional, Tuple
 from xml.sax.saxutils import escape
 
 from . import line_form
+from .arguments import from_one, parser_of
+from .strip_marks import KINDS, Mark, draw_marks, read_marks
 from .strip_picture import EDGE, FAINT_INK, ORANGE, PAGE, RED, Picture, rectangle
 from .strip_runs import LEFT, RIGHT, Span, lay_out, read_runs, rows_of, spans_of
+from .text_file import UTF16, InUtf16
 
 DESCRIPTION = """Draw the report lines of `shiftline` as a strip chart, in SVG on standard output.
 
-  records shift.txt | shiftline | ./strip > shift.svg
+  ./shiftline examples/shift.txt | tools/strip > shift.svg
 
 Records go from left to right. A long run of equal lines, such as the wait in FAULT, is
 drawn short on hatched ground; its label tells how many lines it has.
-Exit status: 0 drawn, 1 something is not a report line, 2 wrong use or unreadable file.
+With --why it marks starts, stops, trips and exits from FAULT, and tells the reason of each:
+
+  ./why examples/shift.txt > reasons
+  ./shiftline examples/shift.txt | tools/strip --why reasons > shift.svg
+
+Exit status: 0 drawn; 1 something is not a report line, or no reason, or a write failed;
+2 wrong use, an unreadable file, or text in UTF-16.
 """
 
 # Each table gives label and colour of its rows, from the top row to the bottom row.
@@ -32,7 +39,20 @@ REFUSALS = {
 }
 
 
-def draw(runs: List[Span], title: str, width: int, longest: int) -> str:
+def draw_legend(picture: Picture, signs: List[Tuple[str, str]], width: int) -> float:
+    """Draws each fill with its meaning, in as many lines as the width asks for, and gives the top of the last."""
+    left, top = float(LEFT), picture.bottom + 32
+    for fill, label in signs:
+        room = 34 + 7.2 * len(label)
+        if left > 20 and left + room > width:
+            left, top = 20.0, top + 22
+        picture.front.append(rectangle(left, top, left + 26, top + 14, fill, "legend", label, f'stroke="{EDGE}"'))
+        picture.text(left + 34, top + 11, label)
+        left += room + 24
+    return top
+
+
+def draw(runs: List[Span], title: str, width: int, longest: int, marks: Optional[List[Mark]] = None) -> str:
     runs = lay_out(runs, width - LEFT - RIGHT, longest)
     picture = Picture(runs)
     states = spans_of(runs, lambda report: report.state)
@@ -49,18 +69,18 @@ def draw(runs: List[Span], title: str, width: int, longest: int) -> str:
     picture.curve("Position (steps)", "position", "#0f766e", moved)
     picture.rows("Refusals", "refusal", 16, refused)
     background = picture.background(states, longest)
+    if marks is not None:
+        draw_marks(picture, marks)
     trips = sum(span.value == "FAULT" for span in states)
     refusals = sum(run.count for run in runs if run.value.number)
     picture.text(20, 34, title, size=20, more='font-weight="bold"')
     summary = (f"records: {sum(run.count for run in runs):,} \u00b7 trips: {trips:,} \u00b7 "
                f"refusals: {refusals:,}")
     picture.text(20, 55, summary, size=13, colour=FAINT_INK)
-    legend = picture.bottom + 32
-    for left, fill, label in ((LEFT, "url(#hatch)", f"over {longest} equal lines, drawn short"),
-                              (LEFT + 300, "#f9dcdc", "in FAULT")):
-        picture.front.append(rectangle(left, legend, left + 26, legend + 14, fill, "legend", label,
-                                       f'stroke="{EDGE}"'))
-        picture.text(left + 34, legend + 11, label)
+    signs = [("url(#hatch)", f"over {longest} equal lines, drawn short"), ("#f9dcdc", "in FAULT")]
+    if marks is not None:
+        signs += [(colour, word) for word, _, colour in KINDS.values()]
+    legend = draw_legend(picture, signs, width)
     height = legend + 32
     return "\n".join([
         f'<svg xmlns="http://www.w3.org/2000/svg" viewBox="0 0 {width} {height:.0f}" '
@@ -71,34 +91,51 @@ def draw(runs: List[Span], title: str, width: int, longest: int) -> str:
         'patternTransform="rotate(45)"><rect width="6" height="6" fill="#f0f2f5"/>'
         '<path d="M0 0V6" stroke="#cfd7de" stroke-width="1.4"/></pattern></defs>',
         rectangle(0, 0, width, height, PAGE, "page", title),
-        *picture.panels, *background, *picture.front, "</svg>\n"])
+        *picture.panels, *background, *picture.strokes, *picture.front, "</svg>\n"])
+
+
+class Unreadable(Exception):
+    """A file that cannot be read."""
+
+
+def read_file(file: str, read: Callable[[Iterable[bytes]], Any]) -> Any:
+    """What a function reads of a file's lines; what is wrong is told with the file's name."""
+    name = "<stdin>" if file == "-" else file
+    try:
+        with sys.stdin.buffer if file == "-" else open(file, "rb") as lines:
+            return read(lines)
+    except OSError as error:
+        raise Unreadable(f"{name}: {error.strerror}") from error
+    except InUtf16 as error:
+        raise InUtf16(name) from error
+    except ValueError as error:
+        raise ValueError(f"{name}:{error}") from error
 
 
 def main() -> int:
-    parser = argparse.ArgumentParser(prog="strip", description=DESCRIPTION,
-                                     formatter_class=argparse.RawDescriptionHelpFormatter)
+    parser = parser_of("strip", DESCRIPTION)
     parser.add_argument("file", nargs="?", default="-", metavar="FILE",
                         help="report lines; '-' or none reads standard input")
+    parser.add_argument("--why", metavar="REASONS", help="what ./why printed for the same records; '-' reads standard input")
     parser.add_argument("--title", default="shiftline strip chart")
-    parser.add_argument("--width", type=int, default=1080, help="in pixels (1080)")
-    parser.add_argument("--longest", type=int, default=20, metavar="N",
+    parser.add_argument("--width", type=from_one, default=1080, help="in pixels (1080)")
+    parser.add_argument("--longest", type=from_one, default=20, metavar="N",
                         help="runs of more than N equal lines are drawn short (20)")
     options = parser.parse_args()
-    if options.width < 400 or options.longest < 1:
-        parser.error("--width is at least 400, --longest at least 1")
-    name = "<stdin>" if options.file == "-" else options.file
+    if options.width < 400:
+        parser.error("--width is at least 400")
+    if options.file == options.why == "-":
+        parser.error("lines and reasons cannot both come by standard input")
     try:
-        with sys.stdin.buffer if options.file == "-" else open(name, "rb") as lines:
-            runs = read_runs(lines)
-    except OSError as error:
-        parser.error(f"{name}: {error.strerror}")
+        runs = read_file(options.file, read_runs)
+        marks = options.why and read_file(options.why, lambda lines: read_marks(lines, sum(run.count for run in runs)))
+    except Unreadable as error:
+        parser.error(str(error))
+    except InUtf16 as error:
+        print(f"strip: {error} {UTF16}", file=sys.stderr)
+        return 2
     except ValueError as error:
-        print(f"{name}:{error}", file=sys.stderr)
+        print(error, file=sys.stderr)
         return 1
-    try:
-        sys.stdout.write(draw(runs, options.title, options.width, options.longest))
-        sys.stdout.flush()
-    except BrokenPipeError:
-        # Python flushes once more at exit and gets a place where that does no harm.
-        os.dup2(os.open(os.devnull, os.O_WRONLY), sys.stdout.fileno())
+    sys.stdout.write(draw(runs, options.title, options.width, options.longest, marks))
     return 0

@@ -22,11 +22,11 @@ def path(drawn: str, colour: str, more: str = "") -> str:
 
 class Picture:
     """Draws tracks one below another. What lies behind all tracks can be drawn only when
-    their height is known, so `panels` (drawn first) and `front` (drawn last) are kept apart."""
+    their height is known, so `panels` (drawn first), the strokes of marks and `front` (drawn last) are kept apart."""
 
     def __init__(self, runs: List[Span]) -> None:
         self.runs, self.right = runs, runs[-1].right
-        self.panels, self.front = [], []
+        self.panels, self.strokes, self.front = [], [], []
         self.top = self.bottom = 84.0
 
     def text(self, x: float, y: float, content: str, anchor: str = "start", size: int = 12,
@@ -34,12 +34,12 @@ class Picture:
         self.front.append(f'<text x="{x:.1f}" y="{y:.1f}" text-anchor="{anchor}" '
                           f'font-size="{size}" fill="{colour}" {more}>{escape(content)}</text>')
 
-    def panel(self, title: str, height: float) -> float:
+    def panel(self, title: str, height: float, left: float = LEFT) -> float:
         """Begin a track and give the top of its panel."""
         top = self.bottom + (24 if self.panels else 0)
         self.text(20, top - 5, title, size=13, more='font-weight="bold"')
         self.bottom = top + height
-        self.panels.append(rectangle(LEFT, top, self.right, self.bottom, PANEL, "panel", title,
+        self.panels.append(rectangle(left, top, self.right, self.bottom, PANEL, "panel", title,
                                      f'stroke="{EDGE}"'))
         return top
 
@@ -114,7 +114,8 @@ class Picture:
         for place in states + self.runs:  # a change of state gets its number first
             if all(abs(place.left - other) > 54 for other in labelled):
                 labelled.append(place.left)
-                self.text(place.left, self.bottom + 16, f"{place.first:,}", "middle", 11, FAINT_INK)
+                self.text(place.left, self.bottom + 16, f"{place.first:,}", "middle", 11, FAINT_INK,
+                          f'stroke="{PAGE}" stroke-width="3" paint-order="stroke"')
                 drawn.append(path(f"M{place.left:.2f} {self.top}V{self.bottom + 4}", STRONG_LINE))
         self.text(20, self.bottom + 16, "Record", size=13, more='font-weight="bold"')
         return drawn

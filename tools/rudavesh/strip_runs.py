@@ -4,6 +4,7 @@ import itertools
 from typing import Any, Callable, Dict, Iterable, List, NamedTuple, Tuple
 
 from . import line_form
+from .text_file import without_ends
 
 LEFT, RIGHT = 200, 28  # margins beside the plot
 LONG_RUN_WIDTH = 64  # room for a label such as "x 10,000"
@@ -23,7 +24,7 @@ def read_runs(lines: Iterable[bytes]) -> List[Span]:
     """Give the runs of equal lines."""
     runs: List[Span] = []
     number = 1
-    for content, group in itertools.groupby(line.rstrip(b"\n") for line in lines):
+    for content, group in itertools.groupby(without_ends(lines)):
         text = content.decode("ascii", errors="replace")
         report = line_form.read(text)
         if report is None:

@@ -1,7 +1,9 @@
 """The commands of tools/, run as people run them."""
 
+import os
 import subprocess
 import sys
+from pathlib import Path
 from typing import List, Union
 
 from rudavesh.places import TOOLS
@@ -10,8 +12,12 @@ from rudavesh.places import TOOLS
 TIMEOUT = 600
 
 
+# The commands find python3 on the PATH: that is to be the one that runs the tests.
+os.environ["PATH"] = f"{Path(sys.executable).parent}{os.pathsep}{os.environ['PATH']}"
+
+
 def command(name: str, *arguments: str) -> List[str]:
-    return [sys.executable, str(TOOLS / name), *arguments]
+    return [str(TOOLS / name), *arguments]
 
 
 def run(name: str, text: Union[str, bytes], *arguments: str) -> subprocess.CompletedProcess:

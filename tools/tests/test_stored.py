@@ -4,8 +4,6 @@ import unittest
 
 from rudavesh import model, places, stored
 
-from .commands import run
-
 
 class StoredFiles(unittest.TestCase):
     @classmethod
@@ -25,11 +23,3 @@ class StoredFiles(unittest.TestCase):
         made = {places.program_folder(word) for word in stored.STORED}
         found = {file.parent for name in ("stdin", "stdout") for file in places.ROOT.glob(f"crates/*/{name}")}
         self.assertEqual(found, made)
-
-
-class Use(unittest.TestCase):
-    def test_help_and_wrong_use(self):
-        for name in ("stored", "compare"):
-            self.assertEqual(run(name, "", "--help").returncode, 0, name)
-            self.assertEqual(run(name, "", "--nonsense").returncode, 2, name)
-            self.assertIn(f"tools/{name}".encode(), run(name, "", "--help").stdout)

@@ -27,7 +27,7 @@ class Errors(Case):
         (line(live=0xABCD).replace("ABCD", "abcd"), "1: not a report line"),
         (line().replace(" 0 0000", " 4 0000"), "1: not a report line"),
         (line().replace("+00000 0", "-00000 0"), "1: not a report line"),
-        (line().replace("\n", "\r\n"), "1: not a report line"),
+        (line().replace("\n", "\r\r\n"), "1: not a report line"),
         (line() + " " + line(), "2: not a report line"),
         (b"\xff" + line().encode()[1:], "1: not a report line"),
         (3 * line() + line()[:-1] + line(), "4: not a report line"),

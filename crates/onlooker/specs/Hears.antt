@@ -85,7 +85,7 @@ follows o now call answer =
       seen = inCode call;
       past = next (o .past) call;
       rules = rules (o .past) call (next (o .past) call);
-      scene = scene (o .scene) (o .memory .shown) call (next (o .past) call .heard) answer;
+      scene = scene (o .scene) (o .memory .shown) (now .dead) call (next (o .past) call .heard) answer;
     }
 
 -- after one entry of the log more

@@ -96,7 +96,7 @@ impl Onlooker {
         let seen = seen(before, now, asked, answer);
         let past = next(kept, seen);
         let rules = judged(kept, seen, past);
-        let scene = with_call(shown, before.shown, seen, past.heard, answer);
+        let scene = with_call(shown, before.shown, now.dead, seen, past.heard, answer);
         Onlooker {
             memory: now,
             seen,

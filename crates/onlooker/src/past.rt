@@ -79,7 +79,7 @@ pub(crate) fn pick_u64(test: bool, yes: u64, no: u64) -> u64
     if test { yes } else { no }
 }
 
-fn pick_bool(test: bool, yes: bool, no: bool) -> bool
+pub(crate) fn pick_bool(test: bool, yes: bool, no: bool) -> bool
     ensures { λ r. ⌜ r ≡ cond test yes no ⌝ }
 {
     if test { yes } else { no }

@@ -1,4 +1,5 @@
 // The words of this drive's calls and answers: low, high, the causes and the states, as specs/Words.antt has them.
+use crate::past::pick_bool;
 use fields::Tick;
 use settings::CMD_START;
 use settings::CMD_STOP;
@@ -9,15 +10,8 @@ use settings::SETTING_COUNT;
 use settings::T_SHUTDOWN;
 use settings::VDC_LV_LEVEL;
 use settings::VDC_OV_LEVEL;
-ghost use mathlib.Core.Bool.{cond};
 ghost use mathlib.Core.Path.{_≡_};
 ghost use Rattle.onlooker.specs.Words.{isMode1, lowOf, highOf, causeOf, deadCauseOf, words};
-
-fn pick_bool(test: bool, yes: bool, no: bool) -> bool
-    ensures { λ r. ⌜ r ≡ cond test yes no ⌝ }
-{
-    if test { yes } else { no }
-}
 
 pub(crate) fn is_mode_1(numbers: [u16; SETTING_COUNT]) -> bool
     ensures { λ r. ⌜ r ≡ isMode1 numbers ⌝ }

@@ -1,16 +1,16 @@
 // The program: it reads records from standard input and writes a line for each to standard output. What stands in its buffer is
-// answered by `records::run`; here is only the moving of bytes.
+// answered by `records::run`; here is only the moving of bytes, by `pieces`.
 use drive::Drive;
-use libc::STDIN_FILENO;
-use libc::STDOUT_FILENO;
+use pieces::move_to_front;
+use pieces::read_behind;
+use pieces::write_out;
 use records::INPUT_SIZE;
 use records::OUTPUT_SIZE;
 use records::run;
 ghost use mathlib.Core.Bool.{true};
 ghost use mathlib.Core.Path.{_≡_};
-ghost use mathlib.Core.List.{_++_};
-ghost use Prim.Native.Nat.{_-_, _≤_};
-ghost use lib.ListN.{length, take, drop};
+ghost use Prim.Native.Nat.{_≤_};
+ghost use lib.ListN.{length};
 ghost use Rattle.records.specs.Stream.{inputSize, outputSize};
 ghost use Rattle.program_shiftline.specs.Rest.{Rest, ReadOn};
 
@@ -20,22 +20,6 @@ struct Held {
     drive: Drive,
     count: usize,
     going: bool,
-}
-
-// Moves the bytes from `from` to `to` to the front, and tells how many they are.
-fn move_to_front(input: &mut [u8], from: usize, to: usize) -> usize
-    requires { ⌜ (from ≤ to) × (to ≤ length (now input)) ⌝ }
-    ensures result { λ r. ⌜ r ≡ to - from ⌝ }
-    ensures lent { λ r. ⌜ now (input .exit)
-        ≡ take (to - from) (drop from (now (input .entry))) ++ drop (to - from) (now (input .entry)) ⌝ }
-{
-    let count = to - from;
-    let mut i: usize = 0;
-    while i < count {
-        input[i] = input[from + i];
-        i += 1;
-    }
-    count
 }
 
 // Answers the first `filled` bytes of the buffer, writes the lines, and moves what is left to the front.
@@ -49,7 +33,7 @@ fn answer(drive: Drive, input: &mut [u8], filled: usize, closed: bool, output: &
     let written = ran.written;
     let ended = ran.ended;
     let drive = ran.drive;
-    let is_written = io::write_all(STDOUT_FILENO, &output[..written]);
+    let is_written = write_out(&output[..written], b"shiftline: standard output");
     Held {
         drive,
         count: move_to_front(input, taken, filled),
@@ -66,15 +50,15 @@ fn read_on(held: Held, input: &mut [u8], output: &mut [u8]) -> Held
 {
     let drive = held.drive;
     let count = held.count;
-    let got = libc::read(STDIN_FILENO, &mut input[count..]);
-    if got < 0 {
+    let piece = read_behind(input, count, b"shiftline: standard input");
+    if piece.failed {
         return Held {
             drive,
             count,
             going: false,
         };
     }
-    let brought = io::count(got, &input[count..]);
+    let brought = piece.brought;
     answer(drive, input, count + brought, brought == 0, output)
 }
 

@@ -9,4 +9,4 @@ unfolding scene
 returns c = cc
 
 pub with-call-spec : {M : Type 1} → statement M
-with-call-spec = tie.close (tie.spec (search needs) (search needs) (search needs) (search needs) returns)
+with-call-spec = tie.close (tie.spec (search needs) (search needs) (search needs) (search needs) (search needs) returns)
