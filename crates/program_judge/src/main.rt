@@ -45,7 +45,13 @@ fn judged(held: Held, input: &mut [u8], lines: &mut [u8]) -> Held
     let judge = held.judge;
     let count = held.count;
     let printed = held.lines;
-    let ran = run(judge, &input[..count], held.closed, &lines[..printed], held.finished);
+    let ran = run(
+        judge,
+        &input[..count],
+        held.closed,
+        &lines[..printed],
+        held.finished,
+    );
     let judge = ran.judge;
     let taken = ran.taken;
     let read = ran.lines;
