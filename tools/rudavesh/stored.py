@@ -11,7 +11,7 @@ from typing import Callable, Dict, List, NamedTuple
 
 from . import model
 from .arguments import parser_of
-from .expected import Files, generated, hall_pairs, refusals, report_lines, shiftline_example, splits
+from .expected import Files, generated, hall_pairs, judge_example, refusals, report_lines, shiftline_example, splits, why_story
 from .places import ROOT, program_folder
 
 
@@ -25,6 +25,8 @@ class Stored(NamedTuple):
 # By the words of programs.txt.
 STORED: Dict[str, Stored] = {
     "shiftline": Stored(shiftline_example.files, by_the_model=False),
+    "why": Stored(why_story.files, by_the_model=False),
+    "judge": Stored(judge_example.files, by_the_model=False),
     "splits": Stored(splits.files, by_the_model=True),
     "refusals": Stored(refusals.files, by_the_model=False),
     "hall_pairs": Stored(hall_pairs.files, by_the_model=False),

@@ -60,13 +60,14 @@ whole_input() {
 }
 
 # The records of a text. The converter has read all of it, and told its errors, before it writes the first byte.
-converted_input() { whole_input | "$root/tools/records" --named "$name" -; }
+converted_input() { whole_input | "$root/tools/records" --named="$name" -; }
 
 # Makes a file standard input, where it is not that already; `name` is what messages call it.
 open_input() { # FILE
     name=$1
     if [ "$1" = - ]; then
         name='<stdin>'
+        need_input
         [ ! -d /dev/stdin ] || fail 2 "standard input is a directory, and no file of records."
         [ ! -t 0 ] || say "reading text from the terminal; Ctrl-D ends it."
         return
@@ -76,12 +77,13 @@ open_input() { # FILE
     { [ -r "$1" ] && exec <"$1"; } || fail 2 "'$1' cannot be read."
 }
 
-# The lines that a board printed as the descriptor that the judge reads, without Windows line ends and the mark of UTF-8.
+# The lines that a board printed as the descriptor that the judge reads, without Windows line ends and the mark of UTF-8, and with the
+# last line feed where it was lost.
 open_lines() { # FILE
     open_input "$1"
     look
     [ "$kind" != utf16 ] || fail 2 "$name is text in UTF-16: save it as UTF-8, and give that."
-    exec 3< <(whole_input | LC_ALL=C sed '1s/^\xEF\xBB\xBF//; s/\r$//' 2>/dev/null)
+    exec 3< <(whole_input | LC_ALL=C sed -e '1s/^\xEF\xBB\xBF//; s/\r$//' -e '$a\' 2>/dev/null)
 }
 
 wrong_use() { # SENTENCE
@@ -100,11 +102,11 @@ read_arguments() { # WORD MOST ARGUMENT ...
     shift 2
     files=()
     for argument; do
-        case $options$argument in
-        yes-h | yes--help) printf '%s\n\n%s\n' "$usage" "$READING"; exit ;;
-        yes--version) version "$word"; exit ;;
-        yes--) options= ;;
-        yes-?*) wrong_use "unknown option $argument" ;;
+        case $options:$argument in
+        yes:-h | yes:--help) printf '%s\n\n%s\n' "$usage" "$READING"; exit ;;
+        yes:--version) version "$word"; exit ;;
+        yes:--) options= ;;
+        yes:-?*) wrong_use "unknown option $argument" ;;
         *) files+=("$argument") ;;
         esac
     done

@@ -12,12 +12,16 @@ fail() { # STATUS SENTENCE
     exit "$1"
 }
 
-# Says which of the three descriptors is closed, before something else is opened in its place.
+# Finds out which of the three descriptors is closed, before something else is opened in its place. Whether standard input is asked for
+# shows later: `no_input` says that it is closed.
 look_at_descriptors() {
+    no_input=''
     { : 5>&2; } 2>/dev/null || exec 2>/dev/null
     { : 5>&1; } 2>/dev/null || fail 1 "standard output is closed."
-    { : 5<&0; } 2>/dev/null || fail 2 "standard input is closed."
+    { : 5<&0; } 2>/dev/null || { exec </dev/null; no_input=yes; }
 }
+
+need_input() { [ -z "$no_input" ] || fail 2 "standard input is closed."; }
 
 # The folder in crates/ that a word stands for, or the word itself where it is a folder.
 folder_of() { # WORD
@@ -73,10 +77,23 @@ name_copy() {
     copy=$root/target/run/$folder.$({ cat "$kit/KIT-ID"; uname -m; echo "$sources"; } 2>/dev/null | sha256sum | cut -c 1-64)
 }
 
+# Seconds without a word from rt after which a word is due: a large crate takes longer.
+PATIENCE=30
+
 # Passes on rt's word of each crate that it proved, and keeps all that it says in target/run/log.
 show_progress() {
-    local line name seconds done=0
-    while IFS= read -r line; do
+    local line part='' name seconds done=0 began=$SECONDS
+    while true; do
+        IFS= read -r -t "$PATIENCE" line
+        case $? in
+        0) line=$part$line part='' ;;
+        1) break ;;
+        *)
+            part+=$line
+            say "still at it: $done of ${#crates[@]} crates after $((SECONDS - began)) s."
+            continue
+            ;;
+        esac
         printf '%s\n' "$line" >>"$root/target/run/log"
         [[ $line =~ ^rt:\ ([a-z_0-9]+)\ proved\ \((.*)\)$ ]] || continue
         name=${BASH_REMATCH[1]} seconds=${BASH_REMATCH[2]} done=$((done + 1))

@@ -125,6 +125,16 @@ class FirstRun(Case):
         ])  # fmt: skip
         self.assertEqual(self.run_it("shiftline").stderr, b"")
 
+    def test_a_crate_that_takes_long_is_no_silence(self):
+        file = self.root / "tools/shell/proved.bash"
+        file.write_text(file.read_text().replace("PATIENCE=30\n", "PATIENCE=0.2\n"))
+        self.hold.touch()
+        process = self.start("shiftline")
+        process.stderr.readline()
+        self.assertRegex(process.stderr.readline().decode(), r"^shiftline: still at it: 0 of 3 crates after \d+ s\.\n$")
+        self.hold.unlink()
+        self.assertIn(b"3 of 3 crates proved", process.communicate(timeout=TIMEOUT)[1])
+
     def test_an_interrupt_ends_all_of_the_build_and_breaks_nothing(self):
         self.hold.touch()
         # The gate starts its tests in the background, where an interrupt is ignored.

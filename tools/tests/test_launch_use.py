@@ -44,8 +44,9 @@ class Arguments(Case):
 
     def test_two_dashes_end_the_options(self):
         self.built()
-        self.file("-x", RECORD)
-        self.assertEqual(self.run_it("shiftline", "--", "-x", cwd=self.room).stdout, RECORD)
+        for name in ("-x", "yes:-h"):
+            self.file(name, TEXT)
+            self.assertEqual(self.run_it("shiftline", "--", name, cwd=self.room).stdout, RECORD)
 
     def test_version_is_one_line_with_the_kit_of_the_readme(self):
         done = self.run_it("shiftline", "--version")
@@ -186,8 +187,12 @@ class Output(Case):
     def test_a_closed_output_is_told(self):
         for name, argument in (("shiftline", self.shift), ("tools/run", "shiftline"), ("tools/records", self.shift)):
             self.told(self.run_it(name, argument, preexec_fn=lambda: os.close(1)), 1, "standard output is closed")
+
+    def test_a_closed_input_is_told_where_it_is_asked_for(self):
         for words in (["shiftline"], ["tools/run", "shiftline"]):
             self.told(self.run_it(*words, preexec_fn=lambda: os.close(0)), 2, "standard input is closed")
+        done = self.run_it("shiftline", self.shift, preexec_fn=lambda: os.close(0))
+        self.assertEqual((done.returncode, done.stdout), (0, 5000 * tick()))
 
     def test_a_reader_that_closes_ends_it_quietly(self):
         # As a shell starts it, where the signal of a closed pipe ends the program; and where that is ignored and a write fails.

@@ -71,7 +71,8 @@ permits-alike {p} {past} k =
       since-named noneOfThese (λ call. retried call && noLoadNorStart call) past,
     )
 
-keeps-next : (p : Past) (call : Seen) (past : List Seen) → suc (length past) ≤ most → Keeps p past → Keeps (next p call) (call ∷ past)
+keeps-next : (p : Past) (call : Seen) (past : List Seen)
+    → suc (length past) ≤ most → Keeps p past → Keeps (next p call) (call ∷ past)
 unfolding next sinceAt History.everLoaded History.retries History.faultStanding History.startTaken History.beforeStart
 keeps-next p call past short k =
     let counted-heard : up most (p .heard) ≡ suc (length past) = rw (k .heard) (omega arith) in
@@ -128,7 +129,8 @@ noted-length [] = refl
 noted-length (e ∷ before) = ap suc (noted-length before)
 
 -- "the low that it names is the last one that `lowSince` accepts, the retry the one that `retrySince` does": both are `since`
-pub names-the-last : (keep mark : Seen → Bool) (past : List Seen) → T (since keep mark past) → Named keep mark past (sinceAt keep mark past)
+pub names-the-last : (keep mark : Seen → Bool) (past : List Seen)
+    → T (since keep mark past) → Named keep mark past (sinceAt keep mark past)
 unfolding sinceAt
 names-the-last keep mark [] found = absurd found
 names-the-last keep mark (call ∷ past) found = last (mark call) (keep call) refl refl found (names-the-last keep mark past) where

@@ -13,9 +13,9 @@
 -- that b is true, `cond b x y` is x where b is true, else y, and `leb m n` is m ≤ n.
 --
 -- What has to be believed: this file; `Log.antt`, what a log of calls and answers is; `Onlooker.antt`, how the notes are made of it; and of
--- a supervisor its `Words`, its machine and the statement that joins them (for the drive all three are in or named by `demands`
--- specs/Supervised.antt). `Laws.antt` is only a way to prove the demand of a supervisor, `Page.antt` only a way to show the notes, and
--- `proofs/BadHabits.antt` shows the rule at work on wrong supervisors.
+-- a supervisor its `Words`, its machine and the statement that joins them (for the drive all three are named by `theorems_demands`
+-- specs/Supervised.antt; its words stand in `onlooker`). `Laws.antt` is only a way to prove the demand of a supervisor, `Page.antt` only
+-- a way to show the notes, and `proofs/BadHabits.antt` shows the rule at work on wrong supervisors.
 --
 -- Where the words leave a choice the stricter reading is taken:
 --   started      "that start" is the last move from STOP at an accepted tick that held a high command; its own call counts as since it

@@ -1,0 +1,16 @@
+-- One reply of each public function of this crate: any two that its own promise permits are equal.
+use mathlib.Core.Path.{refl, _∙⁻¹_}
+use Rattle.numbers.proofs.Reply.{OneReply, same}
+use Rattle.onlooker.proofs as promises
+
+pub new : OneReply promises.Onlooker.new.ended promises.Onlooker.new.Reads.Post
+new κs given r s p q = same (p ∙⁻¹ q) refl
+
+pub load : OneReply promises.Onlooker.load.ended promises.Onlooker.load.Reads.Post
+load κs given r s p q = same (p ∙⁻¹ q) refl
+
+pub cycle : OneReply promises.Onlooker.cycle.ended promises.Onlooker.cycle.Reads.Post
+cycle κs given r s p q = same (p ∙⁻¹ q) refl
+
+pub tick : OneReply promises.Onlooker.tick.ended promises.Onlooker.tick.Reads.Post
+tick κs given r s p q = same (p ∙⁻¹ q) refl

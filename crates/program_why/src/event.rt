@@ -1,0 +1,71 @@
+// What a record's sentences are made of.
+use onlooker::Onlooker;
+use onlooker::past::Past;
+use onlooker::past::Seen;
+use settings::CONTROL_MODE;
+
+// The call: L, C or T, and number and place of its answer.
+pub(crate) struct Told {
+    pub(crate) letter: u8,
+    pub(crate) number: u8,
+    pub(crate) place: u8,
+}
+
+// The record's number and what was told of it; the states that the answers showed before it and after it, and whether the one before ran;
+// the note; mode 1; the records of the low and of the retry that permit a start, whether one was permitted, the retries counted; the last
+// low and the last trip before it; the record that lit the live word, and whether dead samples lit bit 15; live word and gates, before
+// and after.
+pub(crate) struct Event {
+    pub(crate) nth: u64,
+    pub(crate) told: Told,
+    pub(crate) from: u8,
+    pub(crate) to: u8,
+    pub(crate) ran: bool,
+    pub(crate) seen: Seen,
+    pub(crate) timed: bool,
+    pub(crate) low: u64,
+    pub(crate) retry: u64,
+    pub(crate) permitted: bool,
+    pub(crate) retries: u64,
+    pub(crate) last_low: u64,
+    pub(crate) last_trip: u64,
+    pub(crate) lit: u64,
+    pub(crate) dead: bool,
+    pub(crate) old_live: u16,
+    pub(crate) live: u16,
+    pub(crate) old_gate: u8,
+    pub(crate) gate: u8,
+}
+
+fn permits(past: Past) -> bool {
+    past.loaded & ((past.low != 0) | (past.retry != 0))
+}
+
+pub(crate) fn happened(before: Onlooker, after: Onlooker, told: Told) -> Event {
+    let remembered = after.memory;
+    let numbers = remembered.numbers;
+    let past = before.past;
+    let scene = after.scene;
+    let seen = after.seen;
+    Event {
+        nth: after.past.heard,
+        told,
+        from: before.memory.shown,
+        to: remembered.shown,
+        ran: before.seen.running,
+        seen,
+        timed: numbers[CONTROL_MODE] == 1,
+        low: past.low,
+        retry: past.retry,
+        permitted: permits(past),
+        retries: after.past.retries,
+        last_low: before.scene.low,
+        last_trip: before.scene.trip,
+        lit: scene.lit,
+        dead: scene.dead,
+        old_live: before.scene.live,
+        live: scene.live,
+        old_gate: before.scene.gate,
+        gate: scene.gate,
+    }
+}
