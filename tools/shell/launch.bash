@@ -77,12 +77,13 @@ open_input() { # FILE
     { [ -r "$1" ] && exec <"$1"; } || fail 2 "'$1' cannot be read."
 }
 
-# The lines that a board printed as the descriptor that the judge reads, without Windows line ends and the mark of UTF-8.
+# The lines that a board printed as the descriptor that the judge reads, without Windows line ends and the mark of UTF-8, and with the
+# last line feed where it was lost.
 open_lines() { # FILE
     open_input "$1"
     look
     [ "$kind" != utf16 ] || fail 2 "$name is text in UTF-16: save it as UTF-8, and give that."
-    exec 3< <(whole_input | LC_ALL=C sed '1s/^\xEF\xBB\xBF//; s/\r$//' 2>/dev/null)
+    exec 3< <(whole_input | LC_ALL=C sed -e '1s/^\xEF\xBB\xBF//; s/\r$//' -e '$a\' 2>/dev/null)
 }
 
 wrong_use() { # SENTENCE

@@ -1,6 +1,7 @@
 -- A line is good exactly where it is the line of the answer that its digits show; equal bytes pass the test, and no others.
 use Prim.Native.Nat.{ℕ}
 use mathlib.Core.Path.{_≡_, refl, ap, sym, _∙_}
+use mathlib.Core.Bool.{Bool, true, false}
 use mathlib.Core.List.{List, [], _∷_}
 use lib.Dec.{T, eqb, eqb→eq, eqb-refl}
 use lib.ListN.{length}
@@ -26,6 +27,17 @@ same-equal (x ∷ a) (y ∷ b) t =
 same-self : (a : List ℕ) → T (sameBytes a a)
 same-self [] = tt
 same-self (x ∷ a) = yes-and (eqb x x) (sameBytes a a) (eqb-refl x) (same-self a)
+
+-- the code's test says what the definition's does
+pub same-test : (a b : List ℕ) (said : Bool) → (said ≡ true → a ≡ b) → (a ≡ b → said ≡ true) → said ≡ sameBytes a b
+same-test a b said forth back =
+    alike said (sameBytes a b) (λ e. rw (forth e) (same-self b)) (λ t. back (same-equal a b t))
+  where
+    alike : (s t : Bool) → (s ≡ true → T t) → (T t → s ≡ true) → s ≡ t
+    alike true true f g = refl
+    alike true false f g = absurd (f refl)
+    alike false true f g = g tt
+    alike false false f g = refl
 
 -- the answer has a line, and these bytes are it
 pub record LineOf (answer : Answer) (bytes : List ℕ) : Type 0 where

@@ -1,0 +1,67 @@
+-- What a turn takes is there: no more of the records than there are bytes, and no more of the lines.
+use Prim.Native.Nat.{ℕ, zero, suc, _-_, _≤_}
+use native.Mathlib.Numerals.{sub-one}
+use native.Mathlib.Omega.{arith}
+use mathlib.Core.Path.{_≡_, refl}
+use mathlib.Core.Bool.{Bool, true, false, not, _&&_}
+use mathlib.Core.List.{List, []}
+use lib.Dec.{eqb}
+use lib.ListN.{length, length-take}
+use Rattle.numbers.proofs.Tests.{by-test}
+use Rattle.records.specs.Front.{Front, end, unknown, short, whole, front}
+use Rattle.records.proofs.MoreBytes.{Grown, no-byte, no-record, a-part, a-record, grown}
+use Rattle.judge.specs.NextLine.{nextLine, lineOf}
+use Rattle.judge.specs.Run.{wantsTurn, follow, turn, onward, runs}
+use Rattle.judge.specs.declared.Judge.{Judge}
+use Rattle.judge.specs.declared.Ran.{Ran}
+
+pub size-within : (lines : List ℕ) → nextLine lines .size ≤ length lines
+unfolding nextLine
+size-within lines = omega arith
+
+line-within : (lines : List ℕ) → length (lineOf lines) ≤ length lines
+line-within lines = simp length-take (omega arith)
+
+-- of the records and of the lines
+abbrev Within : List ℕ → List ℕ → Ran → Type 0
+Within input lines ran = (ran .taken ≤ length input) × (ran .lines ≤ length lines)
+
+pub turn-within : (closed : Bool) (input : List ℕ) (finished : Bool) (lines : List ℕ) (j : Judge)
+    → Within input lines (turn closed input finished lines j)
+unfolding turn
+turn-within closed input finished lines j =
+    by-test (Within input lines) (not (nextLine lines .whole) && not finished)
+    (λ _. (omega arith, omega arith))
+    (λ _. go (front input) (grown input []))
+  where
+    go : (f : Front) {g : Front} → Grown input f g → Within input lines (follow closed j (lineOf lines) f)
+    go end (no-byte _) = by-test (Within input lines) closed (λ _. (omega arith, omega arith)) (λ _. (omega arith, omega arith))
+    go unknown no-record = (omega arith, line-within lines)
+    go short (a-part _) =
+        by-test (Within input lines) closed (λ _. (omega arith, line-within lines)) (λ _. (omega arith, omega arith))
+    go (whole _) (a-record call off all) = (all, line-within lines)
+
+-- where it does not wait for a line, it does what stands at the front of the records
+pub follows : (closed : Bool) (input : List ℕ) (finished : Bool) (lines : List ℕ) (j : Judge) {f : Front}
+    → (not (nextLine lines .whole) && not finished) ≡ false
+    → front input ≡ f
+    → turn closed input finished lines j ≡ follow closed j (lineOf lines) f
+unfolding turn
+follows closed input finished lines j there is = rw (there, is)
+
+-- a run ends with the turn that wants no other
+pub stops : (fuel : ℕ) (closed : Bool) (input : List ℕ) (finished : Bool) (lines : List ℕ) (ran : Ran)
+    → eqb (onward closed input finished lines ran .wants) wantsTurn ≡ false
+    → runs fuel closed input finished lines ran ≡ onward closed input finished lines ran
+unfolding runs
+stops zero closed input finished lines ran wants = refl
+stops (suc fuel) closed input finished lines ran wants = rw wants
+
+-- and goes on with any other
+pub goes : (fuel : ℕ) (closed : Bool) (input : List ℕ) (finished : Bool) (lines : List ℕ) (ran : Ran)
+    → (fuel ≡ 0 → ⊥)
+    → eqb (onward closed input finished lines ran .wants) wantsTurn ≡ true
+    → runs fuel closed input finished lines ran ≡ runs (fuel - 1) closed input finished lines (onward closed input finished lines ran)
+unfolding runs
+goes zero closed input finished lines ran some wants = absurd (some refl)
+goes (suc fuel) closed input finished lines ran some wants = rw (wants, sub-one)

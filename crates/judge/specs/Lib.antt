@@ -1,0 +1,4 @@
+pub mod NextLine
+pub mod Judged
+pub mod Run
+pub mod Sentences

@@ -1,0 +1,76 @@
+-- What the judge says: "it names the first line that differs from what the supervisor answers, and the first entry of the log that breaks
+-- demand 3, or says that neither exists".
+use Prim.Native.Nat.{ℕ}
+use mathlib.Core.Bool.{Bool, cond}
+use mathlib.Core.List.{List, [], _++_}
+use lib.Dec.{eqb, ltb}
+use Rattle.text.specs.Text.{text}
+use Rattle.text.specs.Decimal.{decimal}
+use Rattle.onlooker.specs.declared.past.Rules.{Rules}
+use Rattle.judge.specs.Judged.{missing, leftOver, unreadable, refused, numberOf}
+use Rattle.judge.specs.declared.Judge.{Judge}
+
+-- the record's number, in a column of five and two blanks
+unfoldable pub gap : ℕ → List ℕ
+gap number =
+    cond (ltb number 10) (text "      ")
+    (cond (ltb number 100) (text "     ")
+    (cond (ltb number 1000) (text "    ") (cond (ltb number 10000) (text "   ") (text "  "))))
+
+unfoldable pub placed : ℕ → List ℕ
+placed number = text "record " ++ decimal number ++ gap number
+
+-- a sentence about a record
+unfoldable pub about : ℕ → List ℕ → List ℕ
+about number words = placed number ++ words
+
+-- how many calls were judged
+unfoldable pub counting : ℕ → List ℕ
+counting heard = decimal heard ++ text " calls judged\n"
+
+-- the first line that differs
+unfoldable pub differing : ℕ → List ℕ → List ℕ → List ℕ
+differing number expected found =
+    cond (eqb number 0) (text "no line differs from what the supervisor answers\n")
+    (about number (text "the line differs from what the supervisor answers\n  expected ")
+    ++ expected
+    ++ text "  found    "
+    ++ found)
+
+-- a rule that does not hold
+unfoldable pub broken : Bool → ℕ → List ℕ → List ℕ
+broken holds number words = cond holds [] (about number words)
+
+-- "if the gates charge or drive, no live fault stands, and a start was taken since the last accepted load .."; "At every exit from FAULT no
+-- live cause stood."; "The timed retries .. never exceed the loaded limit."
+abbrev pub gatesWords : List ℕ
+gatesWords = text "breaks demand 3, gates: they charge or drive, and a live fault stands or no permitted start was taken\n"
+
+abbrev pub exitWords : List ℕ
+exitWords = text "breaks demand 3, exit: FAULT was left with a live cause, without a trip, or neither by a clear nor by a timed retry\n"
+
+abbrev pub retriesWords : List ℕ
+retriesWords = text "breaks demand 3, retries: more timed retries than the loaded limit\n"
+
+-- the first entry that breaks demand 3, with each rule that it breaks
+unfoldable pub breaking : ℕ → Rules → List ℕ
+breaking number rules =
+    cond (eqb number 0) (text "no call breaks demand 3\n")
+    (broken (rules .gates) number gatesWords
+    ++ broken (rules .exit) number exitWords
+    ++ broken (rules .retries) number retriesWords)
+
+-- how it ended
+unfoldable pub ending : ℕ → ℕ → List ℕ
+ending end number =
+    cond (eqb end missing) (about number (text "has no line: the lines end before it\n"))
+    (cond (eqb end leftOver) (about number (text "is not there: the records end, and lines are left over\n"))
+    (cond (eqb end unreadable) (about number (text "has a line that cannot be read: nothing behind it is judged\n"))
+    (cond (eqb end refused) (about number (text "is unknown or cut short: the run ends there\n")) [])))
+
+unfoldable pub said : Judge → List ℕ
+said j =
+    counting (j .onlooker .past .heard)
+    ++ differing (j .differs) (j .expected) (j .found)
+    ++ breaking (j .breaks) (j .rules)
+    ++ ending (j .end) (numberOf j)

@@ -1,0 +1,318 @@
+// One record with its line.
+use crate::GOING;
+use crate::Judge;
+use crate::LEFT_OVER;
+use crate::LINES;
+use crate::MISSING;
+use crate::NOTHING;
+use crate::OVER;
+use crate::RECORDS;
+use crate::REFUSED;
+use crate::Ran;
+use crate::TURN;
+use crate::UNREADABLE;
+use crate::fronts::next_line;
+use check::same;
+use drive::answer::Answer;
+use drive::answer::Reply;
+use drive::answer::answered;
+use drive::offsets::Pair;
+use fields::Cycle;
+use fields::Tick;
+use lines::Shown;
+use onlooker::Onlooker;
+use onlooker::past::Rules;
+use records::CYCLE_SIZE;
+use records::Found;
+use records::LOAD_SIZE;
+use records::TICK_SIZE;
+use records::settings_at;
+use report::LINE_LENGTH;
+ghost use mathlib.Core.Path.{_≡_};
+ghost use mathlib.Core.Bool.{cond};
+ghost use Prim.Native.Nat.{_≤_};
+ghost use lib.ListN.{length, drop};
+ghost use Rattle.numbers.specs.Count.{up};
+ghost use Rattle.drive.specs.AnyCall.{loads, cycles, ticks};
+ghost use Rattle.records.specs.Decoded.{settingsIn, cycleSize, tickSize, loadSize};
+ghost use Rattle.onlooker.specs.Past.{most};
+ghost use Rattle.judge.specs.Judged.{answerOf, kept, lineFor, lineKept, differsNow, breaksNow};
+ghost use Rattle.judge.specs.Judged.{entryWith, judgeCall, judgeRefusal, endedBy};
+ghost use Rattle.judge.specs.Run.{told, wanting, turn, onward};
+
+// Choices by a test: the code's form of the definitions' `cond`.
+fn pick_u8(test: bool, yes: u8, no: u8) -> u8
+    ensures { λ r. ⌜ r ≡ cond test yes no ⌝ }
+{
+    if test { yes } else { no }
+}
+
+fn pick_u64(test: bool, yes: u64, no: u64) -> u64
+    ensures { λ r. ⌜ r ≡ cond test yes no ⌝ }
+{
+    if test { yes } else { no }
+}
+
+fn pick_line(test: bool, yes: [u8; LINE_LENGTH], no: [u8; LINE_LENGTH]) -> [u8; LINE_LENGTH]
+    ensures { λ r. ⌜ r ≡ cond test yes no ⌝ }
+{
+    if test { yes } else { no }
+}
+
+fn pick_rules(test: bool, yes: Rules, no: Rules) -> Rules
+    ensures { λ r. ⌜ r ≡ cond test yes no ⌝ }
+{
+    if test { yes } else { no }
+}
+
+fn pick_onlooker(test: bool, yes: Onlooker, no: Onlooker) -> Onlooker
+    ensures { λ r. ⌜ r ≡ cond test yes no ⌝ }
+{
+    if test { yes } else { no }
+}
+
+// One more, and at most what 64 bits hold.
+pub(crate) fn one_more(count: u64) -> u64
+    ensures { λ r. ⌜ r ≡ up most count ⌝ }
+{
+    if count < u64::MAX { count + 1 } else { count }
+}
+
+// The board's answer, as far as its line shows it to the onlooker; what it does not read is 0.
+fn answer_of(shown: Shown) -> Answer
+    ensures { λ r. ⌜ r ≡ answerOf shown ⌝ }
+{
+    Answer {
+        number: shown.number,
+        place: 0,
+        state: shown.state,
+        gate: shown.gate,
+        live: shown.live,
+        reference: 0,
+        position: 0,
+        angle: 0,
+        offsets: Pair {
+            first: 0,
+            second: 0,
+        },
+        retries: 0,
+    }
+}
+
+fn kept(rules: Rules) -> bool
+    ensures { λ r. ⌜ r ≡ kept rules ⌝ }
+{
+    rules.gates & rules.exit & rules.retries
+}
+
+// The line that the supervisor's answer has.
+fn line_for(answer: Answer) -> [u8; LINE_LENGTH]
+    ensures { λ r. ⌜ r ≡ lineFor answer ⌝ }
+{
+    let mut line = [0u8; LINE_LENGTH];
+    report::line(answer, &mut line);
+    line
+}
+
+// The board's line, as far as a line is long.
+fn line_kept(line: &[u8]) -> [u8; LINE_LENGTH]
+    ensures { λ r. ⌜ r ≡ lineKept (now (line .entry)) ⌝ }
+{
+    let mut kept = [0u8; LINE_LENGTH];
+    text::put(&mut kept, 0, line);
+    kept
+}
+
+// It is the first line that differs.
+fn differs_now(before: u64, good: bool, expected: [u8; LINE_LENGTH], line: &[u8]) -> bool
+    ensures { λ r. ⌜ r ≡ differsNow before good expected (now (line .entry)) ⌝ }
+{
+    good & (before == 0) & !same(&expected, line)
+}
+
+// It is the first entry that breaks the demand.
+fn breaks_now(before: u64, good: bool, rules: Rules) -> bool
+    ensures { λ r. ⌜ r ≡ breaksNow before good rules ⌝ }
+{
+    good & (before == 0) & !kept(rules)
+}
+
+// A record that the supervisor answers so, heard with the board's own answer so.
+fn entry(judge: Judge, reply: Reply, heard: Onlooker, good: bool, end: u8, line: &[u8]) -> Judge
+    ensures { λ r. ⌜ r ≡ entryWith judge reply heard good end (now (line .entry)) ⌝ }
+{
+    let drive = reply.drive;
+    let before = judge.onlooker;
+    let first_expected = judge.expected;
+    let first_found = judge.found;
+    let expected = line_for(reply.answer);
+    let found = line_kept(line);
+    let number = one_more(before.past.heard);
+    let differs = differs_now(judge.differs, good, expected, line);
+    let breaks = breaks_now(judge.breaks, good, heard.rules);
+    let stopped = pick_u8(line.len() == 0, MISSING, UNREADABLE);
+    Judge {
+        drive,
+        onlooker: pick_onlooker(good, heard, before),
+        differs: pick_u64(differs, number, judge.differs),
+        expected: pick_line(differs, expected, first_expected),
+        found: pick_line(differs, found, first_found),
+        breaks: pick_u64(breaks, number, judge.breaks),
+        rules: pick_rules(breaks, heard.rules, judge.rules),
+        end: pick_u8(good, end, stopped),
+    }
+}
+
+fn told(judge: Judge, taken: usize, lines: usize) -> Ran
+    ensures { λ r. ⌜ r ≡ told judge taken lines ⌝ }
+{
+    Ran {
+        judge,
+        taken,
+        lines,
+        wants: pick_u8(judge.end == GOING, TURN, NOTHING),
+    }
+}
+
+fn wanting(judge: Judge, wants: u8) -> Ran
+    ensures { λ r. ⌜ r ≡ wanting judge wants ⌝ }
+{
+    Ran {
+        judge,
+        taken: 0,
+        lines: 0,
+        wants,
+    }
+}
+
+// The records are over.
+fn ended(judge: Judge, line: &[u8]) -> Ran
+    ensures { λ r. ⌜ r ≡ told (endedBy judge (now (line .entry))) 0 0 ⌝ }
+{
+    let end = pick_u8(line.len() == 0, OVER, LEFT_OVER);
+    told(Judge { end, ..judge }, 0, 0)
+}
+
+// What is no record makes no call.
+fn refusal(judge: Judge, line: &[u8]) -> Ran
+    ensures { λ r. ⌜ r ≡ told (judgeRefusal judge (now (line .entry))) 0 (length (now (line .entry))) ⌝ }
+{
+    let drive = judge.drive;
+    let same = judge.onlooker;
+    let answer = answered(drive, 6, 0);
+    let good = lines::read(line).good;
+    told(
+        entry(judge, Reply { drive, answer }, same, good, REFUSED, line),
+        0,
+        line.len(),
+    )
+}
+
+fn load(judge: Judge, numbers: [u16; 24], line: &[u8]) -> Ran
+    ensures { λ r. ⌜ r ≡ told (judgeCall judge (loads numbers) (now (line .entry))) loadSize (length (now (line .entry))) ⌝ }
+{
+    let drive = judge.drive;
+    let before = judge.onlooker;
+    let shown = lines::read(line);
+    let heard = before.load(numbers, answer_of(shown));
+    told(
+        entry(
+            judge,
+            drive.load_settings(numbers),
+            heard,
+            shown.good,
+            GOING,
+            line,
+        ),
+        LOAD_SIZE,
+        line.len(),
+    )
+}
+
+fn cycle(judge: Judge, fields: Cycle, line: &[u8]) -> Ran
+    ensures { λ r. ⌜ r ≡ told (judgeCall judge (cycles fields) (now (line .entry))) cycleSize (length (now (line .entry))) ⌝ }
+{
+    let drive = judge.drive;
+    let before = judge.onlooker;
+    let shown = lines::read(line);
+    let heard = before.cycle(fields, answer_of(shown));
+    told(
+        entry(judge, drive.cycle(fields), heard, shown.good, GOING, line),
+        CYCLE_SIZE,
+        line.len(),
+    )
+}
+
+fn tick(judge: Judge, fields: Tick, line: &[u8]) -> Ran
+    ensures { λ r. ⌜ r ≡ told (judgeCall judge (ticks fields) (now (line .entry))) tickSize (length (now (line .entry))) ⌝ }
+{
+    let drive = judge.drive;
+    let before = judge.onlooker;
+    let shown = lines::read(line);
+    let heard = before.tick(fields, answer_of(shown));
+    told(
+        entry(judge, drive.tick(fields), heard, shown.good, GOING, line),
+        TICK_SIZE,
+        line.len(),
+    )
+}
+
+// What stands at a place of the records, with the line at a place of the lines.
+fn turn(
+    judge: Judge,
+    input: &[u8],
+    at: usize,
+    closed: bool,
+    lines: &[u8],
+    from: usize,
+    finished: bool,
+) -> Ran
+    requires { ⌜ from ≤ length (now lines) ⌝ }
+    ensures { λ r. ⌜ r ≡ turn closed (drop at (now (input .entry))) finished (drop from (now (lines .entry))) judge ⌝ }
+{
+    let next = next_line(lines, from);
+    if !next.whole & !finished {
+        return wanting(judge, LINES);
+    }
+    let end = from + next.size;
+    let line = &lines[from..end];
+    match records::read(input, at) {
+        Found::End => {
+            if closed {
+                ended(judge, line)
+            } else {
+                wanting(judge, RECORDS)
+            }
+        }
+        Found::Unknown => refusal(judge, line),
+        Found::Short => {
+            if closed {
+                refusal(judge, line)
+            } else {
+                wanting(judge, RECORDS)
+            }
+        }
+        Found::Load => load(judge, settings_at(input, at), line),
+        Found::Cycle(fields) => cycle(judge, fields, line),
+        Found::Tick(fields) => tick(judge, fields, line),
+    }
+}
+
+// One turn more.
+pub(crate) fn onward(ran: Ran, input: &[u8], closed: bool, lines: &[u8], finished: bool) -> Ran
+    requires { ⌜ (ran .taken ≤ length (now input)) × (ran .lines ≤ length (now lines)) ⌝ }
+    ensures result { λ r. ⌜ r ≡ onward closed (now (input .entry)) finished (now (lines .entry)) ran ⌝ }
+    ensures within { λ r. ⌜ (r .taken ≤ length (now (input .entry))) × (r .lines ≤ length (now (lines .entry))) ⌝ }
+{
+    let taken = ran.taken;
+    let from = ran.lines;
+    let judge = ran.judge;
+    let next = turn(judge, input, taken, closed, lines, from, finished);
+    let judge = next.judge;
+    Ran {
+        judge,
+        taken: taken + next.taken,
+        lines: from + next.lines,
+        wants: next.wants,
+    }
+}
