@@ -1,5 +1,5 @@
 -- He counts the ticks in FAULT no further than he asks: the count that stops at the wait answers as the one that goes on.
-use Prim.Native.Nat.{ℕ, suc, _≤_, min}
+use Prim.Native.Nat.{ℕ, suc, min}
 use native.Mathlib.Omega.{arith}
 use mathlib.Core.Path.{_≡_, refl}
 use mathlib.Core.Bool.{Bool, true, false, cond}

@@ -1,6 +1,6 @@
 -- The onlooker of demand 3 as code: what he is after one call more with its answer. His memory and his note are the history's own
 -- (`remember` and `note` of `theorems_history`), but that he counts the ticks in FAULT no further than he asks.
-use Prim.Native.Nat.{ℕ, _<_, min}
+use Prim.Native.Nat.{ℕ, min}
 use mathlib.Core.Bool.{Bool, true, false, not, _&&_, _||_, cond}
 use mathlib.Core.List.{List}
 use lib.Dec.{eqb, leb}

@@ -1,7 +1,7 @@
 -- What the onlooker keeps of all his notes, so that one note more is enough to judge demand 3 again and to say by what a start was
 -- permitted. That each field is what the history's rule says of the whole list of notes: specs/Tells.antt, proofs/Follows.antt.
 use Prim.Native.Nat.{ℕ}
-use mathlib.Core.Bool.{Bool, true, false, not, _&&_, _||_, cond}
+use mathlib.Core.Bool.{Bool, false, not, _&&_, _||_, cond}
 use lib.Dec.{eqb, leb}
 use Rattle.numbers.specs.Count.{up}
 use Rattle.theorems_history.specs.History as History

@@ -1,6 +1,5 @@
 -- `tell` keeps both buffers' lengths, and its steps fall.
 use mathlib.Core.Path.{_≡_, refl, sym, _∙_}
-use Prim.Native.Nat.{_≤_}
 use native.Mathlib.Omega.{arith}
 use lib.ListN.{length, length-take, length-drop}
 use lib.Seq.{length-take-le}

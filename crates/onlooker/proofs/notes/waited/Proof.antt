@@ -1,8 +1,4 @@
 -- `waited` counts no further than the wait; what it held before may be more.
-use Prim.Native.Nat.{ℕ, min}
-use mathlib.Core.Path.{_≡_, refl}
-use mathlib.Core.Bool.{cond}
-use lib.Dec.{ltb}
 use borrow.Author.Needs.{needs}
 use Rattle.onlooker.proofs.Clipped.{clipped}
 use Rattle.onlooker.proofs.notes.waited.Statement.{statement}
