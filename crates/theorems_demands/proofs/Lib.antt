@@ -6,6 +6,7 @@ pub mod Remembers
 pub mod Ticks
 pub mod Lawful
 pub mod Clauses
+pub mod Says
 pub mod Refused
 pub mod Computes
 pub mod Bench
