@@ -1,2 +1,5 @@
 pub mod Turns
 pub mod Said
+pub mod Silent
+-- Of the promises themselves.
+pub mod OneReply

@@ -1,6 +1,6 @@
 -- The sentences case by case, as the code comes to them.
 use Prim.Native.Nat.{ℕ, _≤_, _<_}
-use mathlib.Core.Path.{_≡_, refl}
+use mathlib.Core.Path.{_≡_}
 use mathlib.Core.Bool.{Bool, true, false}
 use mathlib.Core.List.{List, [], _++_}
 use borrow.Author.Tests.{lt-ltb, le-ltb, ne-eqb}
@@ -30,7 +30,8 @@ module _ (n : ℕ) where
   unfolding gap
   gap-5 a b c d = rw (le-ltb n 10 a, le-ltb n 100 b, le-ltb n 1000 c, le-ltb n 10000 d)
 
-  pub same-lines : (expected found : List ℕ) → n ≡ 0 → differing n expected found ≡ text "no line differs from what the supervisor answers\n"
+  pub same-lines : (expected found : List ℕ) → n ≡ 0
+      → differing n expected found ≡ text "no line differs from what the supervisor answers\n"
   unfolding differing
   same-lines expected found none = rw none
 
@@ -76,6 +77,8 @@ module _ (n : ℕ) where
   unfolding ending
   at-refused end is = rw is
 
-  pub at-none : (end : ℕ) → (end ≡ missing → ⊥) → (end ≡ leftOver → ⊥) → (end ≡ unreadable → ⊥) → (end ≡ refused → ⊥) → ending end n ≡ []
+  pub at-none : (end : ℕ) → (end ≡ missing → ⊥) → (end ≡ leftOver → ⊥) → (end ≡ unreadable → ⊥)
+      → (end ≡ refused → ⊥)
+      → ending end n ≡ []
   unfolding ending
   at-none end a b c d = rw (ne-eqb end missing a, ne-eqb end leftOver b, ne-eqb end unreadable c, ne-eqb end refused d)

@@ -2,3 +2,4 @@ pub mod NextLine
 pub mod Judged
 pub mod Run
 pub mod Sentences
+pub mod Printed

@@ -12,6 +12,12 @@ use crate::Ran;
 use crate::TURN;
 use crate::UNREADABLE;
 use crate::fronts::next_line;
+use crate::picks::one_more;
+use crate::picks::pick_line;
+use crate::picks::pick_onlooker;
+use crate::picks::pick_rules;
+use crate::picks::pick_u8;
+use crate::picks::pick_u64;
 use check::same;
 use drive::answer::Answer;
 use drive::answer::Reply;
@@ -29,54 +35,13 @@ use records::TICK_SIZE;
 use records::settings_at;
 use report::LINE_LENGTH;
 ghost use mathlib.Core.Path.{_≡_};
-ghost use mathlib.Core.Bool.{cond};
 ghost use Prim.Native.Nat.{_≤_};
 ghost use lib.ListN.{length, drop};
-ghost use Rattle.numbers.specs.Count.{up};
 ghost use Rattle.drive.specs.AnyCall.{loads, cycles, ticks};
-ghost use Rattle.records.specs.Decoded.{settingsIn, cycleSize, tickSize, loadSize};
-ghost use Rattle.onlooker.specs.Past.{most};
+ghost use Rattle.records.specs.Decoded.{loadSize, cycleSize, tickSize};
 ghost use Rattle.judge.specs.Judged.{answerOf, kept, lineFor, lineKept, differsNow, breaksNow};
 ghost use Rattle.judge.specs.Judged.{entryWith, judgeCall, judgeRefusal, endedBy};
 ghost use Rattle.judge.specs.Run.{told, wanting, turn, onward};
-
-// Choices by a test: the code's form of the definitions' `cond`.
-fn pick_u8(test: bool, yes: u8, no: u8) -> u8
-    ensures { λ r. ⌜ r ≡ cond test yes no ⌝ }
-{
-    if test { yes } else { no }
-}
-
-fn pick_u64(test: bool, yes: u64, no: u64) -> u64
-    ensures { λ r. ⌜ r ≡ cond test yes no ⌝ }
-{
-    if test { yes } else { no }
-}
-
-fn pick_line(test: bool, yes: [u8; LINE_LENGTH], no: [u8; LINE_LENGTH]) -> [u8; LINE_LENGTH]
-    ensures { λ r. ⌜ r ≡ cond test yes no ⌝ }
-{
-    if test { yes } else { no }
-}
-
-fn pick_rules(test: bool, yes: Rules, no: Rules) -> Rules
-    ensures { λ r. ⌜ r ≡ cond test yes no ⌝ }
-{
-    if test { yes } else { no }
-}
-
-fn pick_onlooker(test: bool, yes: Onlooker, no: Onlooker) -> Onlooker
-    ensures { λ r. ⌜ r ≡ cond test yes no ⌝ }
-{
-    if test { yes } else { no }
-}
-
-// One more, and at most what 64 bits hold.
-pub(crate) fn one_more(count: u64) -> u64
-    ensures { λ r. ⌜ r ≡ up most count ⌝ }
-{
-    if count < u64::MAX { count + 1 } else { count }
-}
 
 // The board's answer, as far as its line shows it to the onlooker; what it does not read is 0.
 fn answer_of(shown: Shown) -> Answer

@@ -4,7 +4,7 @@ use crate::LEFT_OVER;
 use crate::MISSING;
 use crate::REFUSED;
 use crate::UNREADABLE;
-use crate::entries::one_more;
+use crate::picks::one_more;
 use onlooker::past::Rules;
 use report::LINE_LENGTH;
 use text::put;

@@ -15,7 +15,7 @@ use Rattle.lines.specs.Fields.{answerIn}
 use Rattle.lines.specs.Shown.{sameBytes, isLineOf, unreadable, shown, shownBy}
 use Rattle.lines.specs.declared.Shown.{Shown}
 
-same-equal : (a b : List ℕ) → T (sameBytes a b) → a ≡ b
+pub same-equal : (a b : List ℕ) → T (sameBytes a b) → a ≡ b
 same-equal [] [] t = refl
 same-equal [] (y ∷ b) t = absurd t
 same-equal (x ∷ a) [] t = absurd t

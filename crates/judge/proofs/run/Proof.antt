@@ -2,7 +2,6 @@
 use Prim.Native.Nat.{ℕ, _-_, _≤_}
 use native.Mathlib.Omega.{arith}
 use mathlib.Core.Path.{_≡_, refl, ap, sym, _∙_}
-use mathlib.Core.Bool.{false}
 use lib.Dec.{eqb}
 use lib.ListN.{length}
 use denote.Ref.{now}
@@ -28,7 +27,7 @@ returns c =
     let onward = c .before .before in
     let head = onward .before in
     let args = head .before .before .before .args in
-    let last : eqb (onward .onward .result .wants) wantsTurn ≡ false = ne-eqb (onward .onward .result .wants) wantsTurn (c .if1 .taken) in (
+    let last = ne-eqb (onward .onward .result .wants) wantsTurn (c .if1 .taken) in (
       onward .onward .ensures .0
           ∙ sym (stops (head .loop .left) (args .closed) (now (args .input)) (args .finished) (now (args .lines)) (head .loop .ran)
           (ap (λ (r : Ran). eqb (r .wants) wantsTurn) (sym (onward .onward .ensures .0)) ∙ last))

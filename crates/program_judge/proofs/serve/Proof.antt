@@ -9,7 +9,8 @@ use Rattle.program_judge.proofs.serve.Tie as tie
 
 abbrev Inv-loop : tie.InvT-loop
 Inv-loop from input₀ lines₀ turns₀ held₀ input lines turns held =
-    (length input ≡ length input₀) × (length lines ≡ length lines₀) × (held .count ≤ length input) × (held .lines ≤ length lines)
+    (length input ≡ length input₀) × (length lines ≡ length lines₀)
+    × (held .count ≤ length input) × (held .lines ≤ length lines)
 
 abbrev μ-loop : tie.MeasureT-loop
 μ-loop from input₀ lines₀ turns₀ held₀ input lines turns held = turns

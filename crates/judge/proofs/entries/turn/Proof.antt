@@ -1,14 +1,13 @@
 -- `turn` waits for a line, or does what stands at the front of the records, by what the reader's answer means.
 use Prim.Native.Nat.{ℕ, _+_, _-_, _≤_}
 use native.Mathlib.Omega.{arith}
-use mathlib.Core.Path.{_≡_, refl, ap, sym, _∙_}
-use mathlib.Core.Bool.{Bool, true, false, not, _&&_, cond}
+use mathlib.Core.Path.{_≡_, ap, sym, _∙_}
+use mathlib.Core.Bool.{Bool, true, not, _&&_}
 use mathlib.Core.List.{List}
 use lib.ListN.{length, drop, take, length-drop}
 use denote.Ref.{now}
 use borrow.Author.Needs.{needs}
 use borrow.Author.Tests.{le-ltb}
-use Rattle.drive.specs.AnyCall.{loads}
 use Rattle.records.specs.Decoded.{loadSize, settingsIn, settingsOf}
 use Rattle.records.specs.Front.{Front, front}
 use Rattle.records.specs.declared.Found.{Found}

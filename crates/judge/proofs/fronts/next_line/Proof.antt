@@ -1,7 +1,7 @@
 -- `next_line` finds the line feed where its definition does: in the bytes from a place to the end.
 use Prim.Native.Nat.{ℕ, suc, _≤_, _<_, _+_, _-_, min}
 use native.Mathlib.Omega.{arith}
-use mathlib.Core.Path.{_≡_, refl, ap, _∙_}
+use mathlib.Core.Path.{_≡_, ap, _∙_}
 use mathlib.Core.Bool.{true, false}
 use mathlib.Core.List.{List}
 use lib.ListN.{length, drop, length-drop, drop-of-length-le}
@@ -11,7 +11,6 @@ use borrow.Author.Needs.{needs}
 use borrow.Author.Tests.{lt-ltb, le-ltb}
 use Rattle.bytes.specs.Bytes.{slice, indexOf}
 use Rattle.judge.specs.NextLine.{nextLine}
-use Rattle.judge.specs.declared.fronts.Next.{Next}
 use Rattle.judge.proofs.fronts.next_line.Statement.{statement}
 use Rattle.judge.proofs.fronts.next_line.Tie as tie
 

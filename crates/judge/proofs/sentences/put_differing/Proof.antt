@@ -22,7 +22,8 @@ returns-2 c =
     let else1 = about-put .before .before .before in
     let args = else1 .before .before .args in
     let words = text "the line differs from what the supervisor answers\n  expected " in
-    let to-expected = and-then (args .t4) (first (about (args .number) words) (about-put .put-about .ensures)) (expected-put .put2 .ensures) in
+    let sentence = first (about (args .number) words) (about-put .put-about .ensures) in
+    let to-expected = and-then (args .t4) sentence (expected-put .put2 .ensures) in
     let whole = and-then (args .t5) (and-then (text "  found    ") to-expected (word-put .put3 .ensures)) (found-put .put4 .ensures) in
     rw (other-line (args .number) (args .t4) (args .t5) (else1 .if1 .left)) (whole .place, whole .out)
 
