@@ -126,8 +126,7 @@ class FirstRun(Case):
         self.assertEqual(self.run_it("shiftline").stderr, b"")
 
     def test_a_crate_that_takes_long_is_no_silence(self):
-        file = self.root / "tools/shell/proved.bash"
-        file.write_text(file.read_text().replace("PATIENCE=30\n", "PATIENCE=0.2\n"))
+        self.patience("0.2")
         self.hold.touch()
         process = self.start("shiftline")
         process.stderr.readline()
