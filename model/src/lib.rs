@@ -24,7 +24,7 @@
 //!
 //! The rest is for the comparison: `random` and `generator` make streams,
 //! `reached` counts what a stream reaches; `bench_stream` does both for
-//! `benchline`.
+//! `benchline`, and `written_stream` is what the programs that write one share.
 
 pub mod bench_stream;
 pub mod benchline;
@@ -44,6 +44,7 @@ pub mod settings;
 pub mod state;
 pub mod tick;
 pub mod tick_fields;
+pub mod written_stream;
 
 pub use cycle::CycleFields;
 pub use drive::{Answer, Drive, Gate, Pair, Refusal, Reply};
