@@ -31,7 +31,7 @@ module _ (n : ℕ) where
   gap-5 a b c d = rw (le-ltb n 10 a, le-ltb n 100 b, le-ltb n 1000 c, le-ltb n 10000 d)
 
   pub same-lines : (expected found : List ℕ) → n ≡ 0
-      → differing n expected found ≡ text "no line differs from what the supervisor answers\n"
+      → differing n expected found ≡ text "no line of these differs from what the supervisor answers\n"
   unfolding differing
   same-lines expected found none = rw none
 
@@ -41,7 +41,7 @@ module _ (n : ℕ) where
   unfolding differing
   other-line expected found some = rw (ne-eqb n 0 some)
 
-  pub demand-kept : (rules : Rules) → n ≡ 0 → breaking n rules ≡ text "no call breaks demand 3\n"
+  pub demand-kept : (rules : Rules) → n ≡ 0 → breaking n rules ≡ text "none of these breaks demand 3\n"
   unfolding breaking
   demand-kept rules none = rw none
 

@@ -31,7 +31,7 @@ counting heard = decimal heard ++ text " calls judged\n"
 -- the first line that differs
 unfoldable pub differing : ℕ → List ℕ → List ℕ → List ℕ
 differing number expected found =
-    cond (eqb number 0) (text "no line differs from what the supervisor answers\n")
+    cond (eqb number 0) (text "no line of these differs from what the supervisor answers\n")
     (about number (text "the line differs from what the supervisor answers\n  expected ")
     ++ expected
     ++ text "  found    "
@@ -55,7 +55,7 @@ retriesWords = text "breaks demand 3, retries: more timed retries than the loade
 -- the first entry that breaks demand 3, with each rule that it breaks
 unfoldable pub breaking : ℕ → Rules → List ℕ
 breaking number rules =
-    cond (eqb number 0) (text "no call breaks demand 3\n")
+    cond (eqb number 0) (text "none of these breaks demand 3\n")
     (broken (rules .gates) number gatesWords
     ++ broken (rules .exit) number exitWords
     ++ broken (rules .retries) number retriesWords)

@@ -74,7 +74,7 @@ fn put_differing(
         return put(
             lent,
             at,
-            b"no line differs from what the supervisor answers\n",
+            b"no line of these differs from what the supervisor answers\n",
         );
     }
     let at = put_about(
@@ -103,7 +103,7 @@ fn put_breaking(lent: &mut [u8], at: usize, number: u64, rules: Rules) -> usize
     ensures lent { λ _. ⌜ now (lent .exit) ≡ written at (breaking number rules) (now (lent .entry)) ⌝ }
 {
     if number == 0 {
-        return put(lent, at, b"no call breaks demand 3\n");
+        return put(lent, at, b"none of these breaks demand 3\n");
     }
     let at = put_broken(
         lent,

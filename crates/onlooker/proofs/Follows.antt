@@ -16,6 +16,7 @@ use Rattle.theorems_history.specs.History as History
 use Rattle.theorems_history.specs.History.{Seen, since, counted, noneOfThese, noLoadNorStart, retried}
 use Rattle.onlooker.specs.Words.{words}
 use Rattle.onlooker.specs.Past.{most, permits, next, rules}
+use Rattle.onlooker.specs.Scene.{scene}
 use Rattle.onlooker.specs.Hears.{hears, follows}
 use Rattle.onlooker.specs.Tells.{heardOf, sinceAt, lowAt, retryAt, Named, newest, earlier, Tells}
 use Rattle.onlooker.specs.declared.past.Past.{Past}
@@ -185,3 +186,18 @@ tells log short =
       exit = judged .exit;
       retriesWithin = judged .retries;
     }
+
+-- "no low was held since the trip": the low that the scene keeps is the last one of all
+pub last-low : (log : List (Entry Call Answer)) → length log ≤ most
+    → heardOf log .scene .low ≡ sinceAt (λ call. true) (λ call. call .low) (notes words log)
+unfolding heardOf hears follows scene next sinceAt notes
+last-low [] short = refl
+last-low (e ∷ before) short =
+    let shorter : length before ≤ most = omega arith in
+    let heard = tells before shorter .heard in
+    let counted : up most (heardOf before .past .heard) ≡ suc (length (notes words before)) =
+    rw (heard, noted-length before) (omega arith)
+    in
+    let past = notes words before in
+    rw (counted, last-low before shorter)
+    (ap (λ (s : Seen). cond (s .low) (suc (length past)) (sinceAt (λ call. true) (λ call. call .low) past)) (noted-alike e before))
