@@ -2,7 +2,7 @@
 
 A citation is text between backticks, outside blocks of code. These forms are looked at:
   `crates/*/specs/`, `drive/src/{calls,ticks}.rt`, `tools/strip --title X`   a path, from the root or from crates/; stars, braces, commands
-  `hall/offset_subtracted`, edits `hall/one`, `two`                          must-fail edits, the second of the same crate
+  `hall/offset_subtracted`, edits `hall/one`, `two`                          wrong answers of must-fail edits, the second of the same crate
   `Lib.antt`, `specs/`                                                       a file of any folder, a folder of any crate
   `name` in `crates/hall/specs/Fate.antt`                                    a name that stands in a file
   `hall` Fate.antt `fate`, `next` and `hall` src/fate.rt `judged`            names that stand in a file of a crate; without it, of any crate
@@ -14,6 +14,7 @@ from itertools import chain
 from pathlib import Path
 from typing import Iterator, List, NamedTuple, Optional, Tuple
 
+from .edits import is_wrong_answer
 from .places import crates_of
 
 ENDINGS = "antt|rt|rs|py|md|txt|svg|edit|toml"
@@ -73,8 +74,8 @@ def is_there(root: Path, path: str) -> bool:
     patterns = [bare, f"crates/{bare}"]
     if "/" not in bare:
         patterns += [f"crates/*/{bare}", f"crates/**/{bare}"]
-    elif "." not in bare and bare.count("/") == 1:
-        patterns.append(f"crates/{bare.replace('/', '/must-fail/')}.edit")
+    elif "." not in bare and bare.count("/") == 1 and is_wrong_answer(root, *bare.split("/")):
+        return True
     return any(next(root.glob(pattern), None) for pattern in patterns)
 
 
@@ -133,8 +134,8 @@ def missing_edits_and_tests(root: Path, line: str) -> Iterator[Tuple[str, str]]:
         crate = None
         for name in SPAN.findall(listed):
             crate = name.partition("/")[0] if "/" in name else crate
-            if "/" not in name and crate and not (root / "crates" / crate / "must-fail" / f"{name}.edit").exists():
-                yield name, f"an edit of {crate}"
+            if "/" not in name and crate and not is_wrong_answer(root, crate, name):
+                yield name, f"a wrong answer of {crate}"
     tests = sorted((root / "model" / "tests").glob("*.rs"))
     for listed in MODEL.findall(line):
         for name in SPAN.findall(listed):

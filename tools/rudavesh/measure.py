@@ -1,7 +1,8 @@
 """How long the last check took and how big each crate is, as the table that a landing's note carries.
 
 Reads what `rt ci` left under target/. `rt check` leaves the same but for the edits; a crate that it found unchanged has no time.
-Lines are without blank ones and comments. An edit's time is the mean over the crate's must-fail edits.
+Lines are without blank ones and comments. An edit's time is the mean over the crate's must-fail edits, each of which tries several
+wrong answers.
 --totals needs no check: lines of all crates together, and the longest line and the files over 300 lines of crates, model and tools.
 Exit status: 0 printed; 1 a write failed; 2 wrong use, or nothing is checked yet."""
 
@@ -11,10 +12,11 @@ from pathlib import Path
 from typing import List, Union
 
 from .arguments import parser_of
+from .edits import refusers
 from .places import ROOT, crate_folder, crates_of
 from .sources import lines_of, written_files
 
-COLUMNS = ("Crate", "Check", "An edit", "Code", "Definitions", "Proof", "Functions", "`axioms=`", "Must-fail edits")
+COLUMNS = ("Crate", "Check", "An edit", "Code", "Definitions", "Proof", "Functions", "`axioms=`", "Wrong answers")
 HEAD = f"| {' | '.join(COLUMNS)} |\n|{'---|' * len(COLUMNS)}"
 TOTALS_HEAD = "| Total | |\n|---|---|"
 PARTS = {"code": "src", "definitions": "specs", "proof": "proofs"}
@@ -42,7 +44,7 @@ def row(root: Path, name: str) -> str:
     crate, log = crate_folder(name, root), root / "target" / "log" / f"{name}.out"
     said = log.read_text() if log.exists() else ""
     check = seconds_in(said, rf"rt: {name} proved \(")
-    edits = list((crate / "must-fail").glob("*.edit"))
+    wrong = sum(len(refusers(edit)) for edit in (crate / "must-fail").glob("*.edit"))
     tried = [out.read_text() for out in (root / "target" / "must-fail" / name).glob("*.out")]
     took = [seconds for text in tried for seconds in seconds_in(text, "refused, as it must be")]
     cells = [
@@ -52,7 +54,7 @@ def row(root: Path, name: str) -> str:
         *(shown(lines_of(crate / part)) for part in PARTS.values()),
         shown(number_in(said, "functions")),
         shown(number_in(said, "axioms")),
-        shown(len(edits)),
+        shown(wrong),
     ]
     return f"| {' | '.join(cells)} |"
 

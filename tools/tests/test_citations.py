@@ -29,7 +29,7 @@ class Checker(unittest.TestCase):
             "crates.txt": "hall:\nrun: hall\n",
             "crates/hall/specs/Fate.antt": "abbrev fate : N\nnext-one = fate\n",
             "crates/hall/src/fate.rt": "pub fn judged(kept: u8) -> u8\n",
-            "crates/hall/must-fail/late.edit": "",
+            "crates/hall/must-fail/first.edit": "wrong: late\nrefused by: judged\n",
             "crates/run/specs/Fate.antt": "other = 1\n",
             "model/tests/bench.rs": "fn p1_turns() {\n}\n",
             "tools/strip": "",
@@ -73,7 +73,7 @@ class Checker(unittest.TestCase):
             ("Fate.antt `next`", "next", "in Fate.antt"),
             ("`hall` src/fate.rt `fated`", "fated", "in hall src/fate.rt"),
             ("`hall::fate::judge(kept)`", "hall::fate::judge(kept)", "in the code of hall"),
-            ("edits `hall/late`, `early`", "early", "an edit of hall"),
+            ("edits `hall/late`, `early`", "early", "a wrong answer of hall"),
             ("model `p2_turns`", "p2_turns", "a test of the model"),
         ):
             self.assertEqual(self.said(text), [f"README.md:1 cites `{name}`, which is not {place}."], text)
