@@ -41,7 +41,7 @@ unnamed true before number right is some e = go (eqb before 0) refl right e
     go true z false e = absurd (some e)
     go false z r e = absurd (eqb-false before 0 z e)
 
-numbered : (j : Judge) → numberOf j ≡ 0 → ⊥
+pub numbered : (j : Judge) → numberOf j ≡ 0 → ⊥
 numbered j none = omega arith
 
 -- what an entry leaves, field by field
@@ -65,16 +65,16 @@ module _ (j : Judge) (said : Reply) (heard : Onlooker) (good : Bool) (end : ℕ)
 
 -- an entry of these calls
 module _ (p : Printed) (before : List Printed) where
-  abbrev said : Reply
+  abbrev pub said : Reply
   said = reply (judgeAll before .drive) (p .call)
 
-  abbrev hearing : Onlooker
+  abbrev pub hearing : Onlooker
   hearing = hears (judgeAll before .onlooker) (record { call = p .call; answer = answerOf (shownBy (p .line)) })
 
-  abbrev read : Bool
+  abbrev pub read : Bool
   read = shownBy (p .line) .good
 
-drive-is : (ps : List Printed) → judgeAll ps .drive ≡ driveAfter ps
+pub drive-is : (ps : List Printed) → judgeAll ps .drive ≡ driveAfter ps
 unfolding judgeAll driveAfter
 drive-is [] = refl
 drive-is (p ∷ before) =
@@ -82,7 +82,7 @@ drive-is (p ∷ before) =
     ∙ ap (λ (d : Drive). reply d (p .call) .drive) (drive-is before)
 
 -- the supervisor's line, where the line call is lent zeros
-line-for : (d : Drive) (call : Call) → lineFor (reply d call .answer) ≡ line (reply d call .answer)
+pub line-for : (d : Drive) (call : Call) → lineFor (reply d call .answer) ≡ line (reply d call .answer)
 unfolding lineFor
 line-for d call = rw (reply-printed d call 45 refl (omega arith), append-nil)
 
@@ -101,14 +101,14 @@ no-line-differs (p ∷ before) readable none =
     )
 
 -- with every line read, the onlooker has heard the board's log
-heard-is : (ps : List Printed) → Readable ps → judgeAll ps .onlooker ≡ heardOf (boardLog ps)
+pub heard-is : (ps : List Printed) → Readable ps → judgeAll ps .onlooker ≡ heardOf (boardLog ps)
 unfolding judgeAll Readable boardLog heardOf
 heard-is [] readable = refl
 heard-is (p ∷ before) readable =
     entry-heard (judgeAll before) (said p before) (hearing p before) (read p before) going (p .line) (readable .0)
     ∙ ap (λ (o : Onlooker). hears o (record { call = p .call; answer = answerOf (shownBy (p .line)) })) (heard-is before (readable .1))
 
-length-log : (ps : List Printed) → length (boardLog ps) ≡ length ps
+pub length-log : (ps : List Printed) → length (boardLog ps) ≡ length ps
 unfolding boardLog
 length-log [] = refl
 length-log (p ∷ before) = ap suc (length-log before)
@@ -146,7 +146,7 @@ nothing-breaks : Demand3 (notes words [])
 unfolding notes holds
 nothing-breaks = tt
 
-heard-now : (p : Printed) (before : List Printed) → Readable before
+pub heard-now : (p : Printed) (before : List Printed) → Readable before
     → hearing p before ≡ heardOf (record { call = p .call; answer = answerOf (shownBy (p .line)) } ∷ boardLog before)
 unfolding heardOf
 heard-now p before readable =

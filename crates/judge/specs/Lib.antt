@@ -3,3 +3,4 @@ pub mod Judged
 pub mod Run
 pub mod Sentences
 pub mod Printed
+pub mod First

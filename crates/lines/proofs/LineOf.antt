@@ -24,7 +24,7 @@ same-equal (x ∷ a) (y ∷ b) t =
     let head : x ≡ y = eqb→eq x y first in
     rw (head, same-equal a b others)
 
-same-self : (a : List ℕ) → T (sameBytes a a)
+pub same-self : (a : List ℕ) → T (sameBytes a a)
 same-self [] = tt
 same-self (x ∷ a) = yes-and (eqb x x) (sameBytes a a) (eqb-refl x) (same-self a)
 
