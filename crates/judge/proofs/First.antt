@@ -22,10 +22,9 @@ use Rattle.onlooker.specs.Past.{most}
 use Rattle.onlooker.specs.Tells.{heardOf}
 use Rattle.onlooker.specs.declared.Onlooker.{Onlooker}
 use Rattle.onlooker.proofs.Follows.{tells}
-use Rattle.judge.specs.Judged.{going, answerOf, kept, lineFor, differsNow, breaksNow, entryWith, numberOf}
-use Rattle.judge.specs.Printed.{Printed, judgeAll, boardLog, Readable, driveAfter, Supervised}
+use Rattle.judge.specs.Judged.{answerOf, kept, lineFor, differsNow, breaksNow, entryWith, numberOf}
+use Rattle.judge.specs.Printed.{Printed, judgeAll, boardLog, Readable, Supervised}
 use Rattle.judge.specs.First.{First, newest, earlier, Kept}
-use Rattle.judge.specs.declared.Judge.{Judge}
 use Rattle.judge.proofs.Silent.{said, hearing, read, drive-is, line-for, heard-is, length-log, heard-now}
 use Rattle.judge.proofs.Silent.{no-line-differs, no-call-breaks}
 
@@ -54,27 +53,27 @@ once true before number right is = go (eqb before 0) refl right
 
 -- One law for both, the lines and the demand: what is right of all calls while nothing is named ceases with the one that is.
 module _
-  (Right : List Printed → Type 0)
-  (named : List Printed → ℕ)
-  (none-at-first : named [] ≡ 0)
-  (quiet : (ps : List Printed) → Judged ps → named ps ≡ 0 → Right ps)
-  (step : (p : Printed) (before : List Printed) → Judged (p ∷ before)
-      → Once (named before) (named (p ∷ before)) (suc (length before)) (Right (p ∷ before)))
+    (Right : List Printed → Type 0)
+    (named : List Printed → ℕ)
+    (none-at-first : named [] ≡ 0)
+    (quiet : (ps : List Printed) → Judged ps → named ps ≡ 0 → Right ps)
+    (step : (p : Printed) (before : List Printed) → Judged (p ∷ before)
+    → Once (named before) (named (p ∷ before)) (suc (length before)) (Right (p ∷ before)))
   where
-  names-the-first : (ps : List Printed) → Judged ps → (named ps ≡ 0 → ⊥) → First Right ps (named ps)
-  names-the-first [] judged some = absurd (some none-at-first)
-  names-the-first (p ∷ before) judged some =
-      go (eqb (named before) 0) refl (names-the-first before (earlier-judged p before judged))
-    where
-      go : (none : Bool) → eqb (named before) 0 ≡ none → ((named before ≡ 0 → ⊥) → First Right before (named before))
-          → First Right (p ∷ before) (named (p ∷ before))
-      go true e others =
-          let zero = eqb-true (named before) 0 e in
-          let (is, ceases) = step p before judged .0 zero some in
-          rw is (newest p before (quiet before (earlier-judged p before judged) zero) ceases)
-      go false e others =
-          let already = eqb-false (named before) 0 e in
-          rw (step p before judged .1 already) (earlier p before (named before) (others already))
+    names-the-first : (ps : List Printed) → Judged ps → (named ps ≡ 0 → ⊥) → First Right ps (named ps)
+    names-the-first [] judged some = absurd (some none-at-first)
+    names-the-first (p ∷ before) judged some =
+        go (eqb (named before) 0) refl (names-the-first before (earlier-judged p before judged))
+      where
+        go : (none : Bool) → eqb (named before) 0 ≡ none → ((named before ≡ 0 → ⊥) → First Right before (named before))
+            → First Right (p ∷ before) (named (p ∷ before))
+        go true e others =
+            let zero = eqb-true (named before) 0 e in
+            let (is, ceases) = step p before judged .0 zero some in
+            rw is (newest p before (quiet before (earlier-judged p before judged) zero) ceases)
+        go false e others =
+            let already = eqb-false (named before) 0 e in
+            rw (step p before judged .1 already) (earlier p before (named before) (others already))
 
 -- the number that a record is named by
 number-is : (p : Printed) (before : List Printed) → Judged (p ∷ before) → numberOf (judgeAll before) ≡ suc (length before)

@@ -2,5 +2,6 @@ pub mod Turns
 pub mod Said
 pub mod Silent
 pub mod First
+pub mod Fed
 -- Of the promises themselves.
 pub mod OneReply

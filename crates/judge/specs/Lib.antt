@@ -4,3 +4,4 @@ pub mod Run
 pub mod Sentences
 pub mod Printed
 pub mod First
+pub mod Fed
