@@ -10,11 +10,15 @@ use lib.Dec.{eqb, ltb}
 use lib.ListN.{length, length-append}
 use borrow.Author.Tests.{ltb-true, ltb-false, le-ltb}
 use Rattle.records.specs.Decoded.{byte, numbers}
+use Rattle.drive.specs.AnyCall.{Call}
 use Rattle.records.specs.Front as shiftline
+use Rattle.records.specs.Run.{mostHeld}
 use Rattle.records.proofs.MoreBytes as shiftline-grown
 use Rattle.records.proofs.MoreBytes.{byte-kept, numbers-kept}
 use Rattle.records.proofs.Numbers.{length-numbers}
 use Rattle.streams.specs.Run.{Front, end, unknown, short, whole}
+use Rattle.streams.proofs.Grown as streams
+use Rattle.streams.proofs.Grown.{no-byte, no-record, a-part, a-record}
 use Rattle.bench.specs.Table.{Record, as-in-shiftline, numbered, numberedSize, sizeOf, asShiftline, numberedFront, front}
 
 -- the record is read off the bytes
@@ -24,20 +28,17 @@ ReadOff bytes (numbered given) = given ≡ numbers (byte 1 bytes) 2 bytes
 
 -- how many bytes a part of a record can have, by its count
 abbrev pub mostOf : List ℕ → ℕ
-mostOf bytes = max shiftline.mostHeld (numberedSize (byte 1 bytes) - 1)
+mostOf bytes = max mostHeld (numberedSize (byte 1 bytes) - 1)
 
 -- what stands at the front of the bytes `a`, and what stands there when more have come
-pub data Grown (a : List ℕ) : Front Record → Front Record → Type 0 where
-  no-byte : {g : Front Record} → length a ≡ 0 → Grown a end g
-  no-record : Grown a unknown unknown
-  a-part : {g : Front Record} → length a ≤ mostOf a → Grown a short g
-  a-record : (r : Record) → ReadOff a r → sizeOf r ≤ length a → Grown a (whole r) (whole r)
+abbrev pub Grown : List ℕ → Front Record → Front Record → Type 0
+Grown a f g = streams.Grown sizeOf ReadOff (mostOf a) a f g
 
-as-before : (a : List ℕ) (f g : shiftline.Front) → shiftline-grown.Grown a f g → Grown a (asShiftline f) (asShiftline g)
-as-before a shiftline.end g (shiftline-grown.no-byte none) = no-byte none
-as-before a shiftline.unknown shiftline.unknown shiftline-grown.no-record = no-record
-as-before a shiftline.short g (shiftline-grown.a-part few) = a-part (omega arith)
-as-before a (shiftline.whole _) (shiftline.whole _) (shiftline-grown.a-record call off all) = a-record (as-in-shiftline call) off all
+as-before : (a : List ℕ) (f g : Front Call) → shiftline-grown.Grown a f g → Grown a (asShiftline f) (asShiftline g)
+as-before a end g (no-byte none) = no-byte none
+as-before a unknown unknown no-record = no-record
+as-before a short g (a-part few) = a-part (omega arith)
+as-before a (whole _) (whole _) (a-record call off all) = a-record (as-in-shiftline call) off all
 
 module _ (a b : List ℕ) where
   numbered-grown : (few : Bool) → ltb (length a) (numberedSize (byte 1 a)) ≡ few → Grown a (numberedFront a) (numberedFront (a ++ b))

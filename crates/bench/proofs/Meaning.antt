@@ -9,10 +9,11 @@ use Rattle.settings.specs.Settings.{settingCount}
 use Rattle.records.specs.Decoded.{byte, numbers, loadSize, settingsOf}
 use Rattle.records.proofs.Numbers.{length-numbers}
 use Rattle.streams.specs.Run.{Front, end, unknown, short, whole}
+use Rattle.streams.proofs.Grown.{no-byte, no-record, a-part, a-record}
 use Rattle.bench.specs.Table.{Record, as-in-shiftline, numbered, callOf, numberedSize, sizeOf, front, found}
 use Rattle.bench.specs.declared.find.Found.{Found}
 use Rattle.bench.specs.declared.find.Found.the-variants.{End, Unknown, Short, Load, Cycle, Tick}
-use Rattle.bench.proofs.Grown.{Grown, no-byte, no-record, a-part, a-record, grown}
+use Rattle.bench.proofs.Grown.{Grown, grown}
 
 -- a load of so many numbers from a place of the record on
 pub record Loads (bytes : List ℕ) (first count : ℕ) : Type 0 where

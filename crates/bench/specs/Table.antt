@@ -32,11 +32,11 @@ sizeOf (as-in-shiftline call) = shiftline.sizeOf call
 sizeOf (numbered given) = numberedSize (length given)
 
 -- what stands at the front as `shiftline` reads it
-abbrev pub asShiftline : shiftline.Front → Front Record
-asShiftline shiftline.end = end
-asShiftline shiftline.unknown = unknown
-asShiftline shiftline.short = short
-asShiftline (shiftline.whole call) = whole (as-in-shiftline call)
+abbrev pub asShiftline : Front Call → Front Record
+asShiftline end = end
+asShiftline unknown = unknown
+asShiftline short = short
+asShiftline (whole call) = whole (as-in-shiftline call)
 
 -- a load of so many numbers; a count that is not there yet counts as 0, and the record is short all the same
 abbrev pub numberedFront : List ℕ → Front Record

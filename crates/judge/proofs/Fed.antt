@@ -9,7 +9,8 @@ use lib.ListN.{length, take, drop}
 use lib.Seq.{take-add, length-take-le}
 use Rattle.numbers.proofs.Tests.{by-test, decide}
 use Rattle.drive.specs.AnyCall.{Call}
-use Rattle.records.specs.Front.{sizeOf, Front, end, unknown, short, whole, front}
+use Rattle.streams.specs.Run.{Front, end, unknown, short, whole}
+use Rattle.records.specs.Front.{sizeOf, front}
 use Rattle.lines.specs.Shown.{shownBy}
 use Rattle.judge.specs.NextLine.{nextLine, lineOf}
 use Rattle.judge.specs.Judged.{going, missing, unreadable, nothingJudged, judgeCall, judgeRefusal, endedBy, entryWith}
@@ -110,7 +111,7 @@ module _ {records lines : List ℕ} (j : Judge) (g : Goes records lines j) (inpu
     judges : Turned records lines input printed judged
     judges = decide (shownBy (lineOf printed) .good) reads fails
 
-  follows : (closed : Bool) (f : Front) → front input ≡ f → Turned records lines input printed (follow closed j (lineOf printed) f)
+  follows : (closed : Bool) (f : Front Call) → front input ≡ f → Turned records lines input printed (follow closed j (lineOf printed) f)
   follows closed end is = by-test (Turned records lines input printed) closed (λ _. ends (lineOf printed)) (λ _. waits wantsRecords)
   follows closed unknown is = refuses
   follows closed short is = by-test (Turned records lines input printed) closed (λ _. refuses) (λ _. waits wantsRecords)

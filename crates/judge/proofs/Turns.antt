@@ -8,8 +8,11 @@ use mathlib.Core.List.{List, []}
 use lib.Dec.{eqb}
 use lib.ListN.{length, length-take}
 use Rattle.numbers.proofs.Tests.{by-test}
-use Rattle.records.specs.Front.{Front, end, unknown, short, whole, front}
-use Rattle.records.proofs.MoreBytes.{Grown, no-byte, no-record, a-part, a-record, grown}
+use Rattle.drive.specs.AnyCall.{Call}
+use Rattle.streams.specs.Run.{Front, end, unknown, short, whole}
+use Rattle.records.specs.Front.{front}
+use Rattle.streams.proofs.Grown.{no-byte, no-record, a-part, a-record}
+use Rattle.records.proofs.MoreBytes.{Grown, grown}
 use Rattle.judge.specs.NextLine.{nextLine, lineOf}
 use Rattle.judge.specs.Run.{wantsTurn, follow, turn, onward, runs}
 use Rattle.judge.specs.declared.Judge.{Judge}
@@ -34,7 +37,7 @@ turn-within closed input finished lines j =
     (λ _. (omega arith, omega arith))
     (λ _. go (front input) (grown input []))
   where
-    go : (f : Front) {g : Front} → Grown input f g → Within input lines (follow closed j (lineOf lines) f)
+    go : (f : Front Call) {g : Front Call} → Grown input f g → Within input lines (follow closed j (lineOf lines) f)
     go end (no-byte _) = by-test (Within input lines) closed (λ _. (omega arith, omega arith)) (λ _. (omega arith, omega arith))
     go unknown no-record = (omega arith, line-within lines)
     go short (a-part _) =
@@ -42,7 +45,7 @@ turn-within closed input finished lines j =
     go (whole _) (a-record call off all) = (all, line-within lines)
 
 -- where it does not wait for a line, it does what stands at the front of the records
-pub follows : (closed : Bool) (input : List ℕ) (finished : Bool) (lines : List ℕ) (j : Judge) {f : Front}
+pub follows : (closed : Bool) (input : List ℕ) (finished : Bool) (lines : List ℕ) (j : Judge) {f : Front Call}
     → (not (nextLine lines .whole) && not finished) ≡ false
     → front input ≡ f
     → turn closed input finished lines j ≡ follow closed j (lineOf lines) f

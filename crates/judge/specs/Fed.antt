@@ -6,7 +6,8 @@ use lib.Dec.{T}
 use mathlib.Core.Bool.{not}
 use lib.ListN.{take}
 use Rattle.drive.specs.AnyCall.{Call}
-use Rattle.records.specs.Front.{sizeOf, whole, front}
+use Rattle.streams.specs.Run.{whole}
+use Rattle.records.specs.Front.{sizeOf, front}
 use Rattle.lines.specs.Shown.{shownBy}
 use Rattle.judge.specs.NextLine.{lineOf}
 use Rattle.judge.specs.Judged.{judgeRefusal, endedBy}

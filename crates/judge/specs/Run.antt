@@ -4,7 +4,9 @@ use mathlib.Core.Bool.{Bool, not, _&&_, cond}
 use mathlib.Core.List.{List}
 use lib.Dec.{eqb}
 use lib.ListN.{length, drop}
-use Rattle.records.specs.Front.{sizeOf, Front, end, unknown, short, whole, front}
+use Rattle.drive.specs.AnyCall.{Call}
+use Rattle.streams.specs.Run.{Front, end, unknown, short, whole}
+use Rattle.records.specs.Front.{sizeOf, front}
 use Rattle.judge.specs.NextLine.{nextLine, lineOf}
 use Rattle.judge.specs.Judged.{going, judgeCall, judgeRefusal, endedBy}
 use Rattle.judge.specs.declared.Judge.{Judge}
@@ -32,7 +34,7 @@ abbrev pub told : Judge → ℕ → ℕ → Ran
 told j taken lines = record { judge = j; taken = taken; lines = lines; wants = cond (eqb (j .end) going) wantsTurn wantsNothing }
 
 -- what stands at the front of the records, with the line at the front of the lines: a record without a line has the line of no bytes
-abbrev pub follow : Bool → Judge → List ℕ → Front → Ran
+abbrev pub follow : Bool → Judge → List ℕ → Front Call → Ran
 follow closed j line end = cond closed (told (endedBy j line) 0 0) (wanting j wantsRecords)
 follow closed j line unknown = told (judgeRefusal j line) 0 (length line)
 follow closed j line short = cond closed (told (judgeRefusal j line) 0 (length line)) (wanting j wantsRecords)

@@ -6,17 +6,18 @@ use mathlib.Core.List.{List}
 use lib.Dec.{eqb}
 use lib.ListN.{take, drop}
 use Rattle.drive.specs.declared.Drive.{Drive}
-use Rattle.records.specs.Run.{Outcome, run}
+use Rattle.streams.specs.Run.{Outcome, run}
+use Rattle.records.specs.Run.{shiftline}
 use Rattle.program_shiftline.specs.declared.Held.{Held}
 
 -- the run over the first `filled` bytes of the buffer
-abbrev pub ran : Bool → ℕ → ℕ → List ℕ → Drive → Outcome
-ran closed room filled buffer drive = run closed room (take filled buffer) drive
+abbrev pub ran : Bool → ℕ → ℕ → List ℕ → Drive → Outcome Drive
+ran closed room filled buffer drive = run shiftline closed room (take filled buffer) drive
 
 -- the drive that the run left and, at the front of the buffer, the bytes that it did not take; "a line with number 6 .. ends the run",
 -- and so does the end of the input. No contract says whether the lines were written: `written` is what the OS told of it.
 pub record Rest (closed : Bool) (room filled : ℕ) (before after : List ℕ) (drive : Drive) (held : Held) : Type 0 where
-  pub left : held .drive ≡ ran closed room filled before drive .drive
+  pub left : held .drive ≡ ran closed room filled before drive .state
   pub count : held .count ≡ filled - ran closed room filled before drive .taken
   pub bytes : take (held .count) after ≡ take (held .count) (drop (ran closed room filled before drive .taken) before)
   pub written : Bool

@@ -11,7 +11,7 @@ ghost use mathlib.Core.Bool.{true};
 ghost use mathlib.Core.Path.{_≡_};
 ghost use Prim.Native.Nat.{_≤_};
 ghost use lib.ListN.{length};
-ghost use Rattle.records.specs.Stream.{inputSize, outputSize};
+ghost use Rattle.records.specs.Run.{inputSize, outputSize};
 ghost use Rattle.program_shiftline.specs.Rest.{Rest, ReadOn};
 
 // What the program holds from one read to the next: the drive, how many bytes at the front of the buffer are not answered yet, and

@@ -12,7 +12,11 @@ use borrow.Author.Tests.{ltb-true, ltb-false, le-ltb, ne-eqb, eqb-true, eqb-fals
 use Rattle.settings.specs.Settings.{settingCount}
 use Rattle.drive.specs.AnyCall.{Call, loads, cycles, ticks}
 use Rattle.records.specs.Decoded.{byte, number, numbers, loadSize, settingsOf, cycleSize, cycleOf, tickSize, tickOf}
-use Rattle.records.specs.Front.{sizeOf, mostHeld, Front, end, unknown, short, whole, held, begun, front}
+use Rattle.streams.specs.Run.{Front, short, whole}
+use Rattle.streams.proofs.Grown as streams
+use Rattle.streams.proofs.Grown.{no-byte, no-record, a-part, a-record}
+use Rattle.records.specs.Front.{sizeOf, held, begun, front}
+use Rattle.records.specs.Run.{mostHeld}
 use Rattle.records.proofs.Sizes.{at-most-longest}
 
 -- the record is read off the bytes
@@ -22,13 +26,10 @@ ReadOff bytes (cycles fields) = fields ≡ cycleOf bytes
 ReadOff bytes (ticks fields) = fields ≡ tickOf bytes
 
 -- what stands at the front of the bytes `a`, and what stands there when more have come
-pub data Grown (a : List ℕ) : Front → Front → Type 0 where
-  no-byte : {g : Front} → length a ≡ 0 → Grown a end g
-  no-record : Grown a unknown unknown
-  a-part : {g : Front} → length a ≤ mostHeld → Grown a short g
-  a-record : (r : Call) → ReadOff a r → sizeOf r ≤ length a → Grown a (whole r) (whole r)
+abbrev pub Grown : List ℕ → Front Call → Front Call → Type 0
+Grown a f g = streams.Grown sizeOf ReadOff mostHeld a f g
 
-both : {a : List ℕ} (test : Bool) {f g f′ g′ : Front}
+both : {a : List ℕ} (test : Bool) {f g f′ g′ : Front Call}
     → Grown a f f′ → Grown a g g′ → Grown a (cond test f g) (cond test f′ g′)
 both true p q = p
 both false p q = q
@@ -95,13 +96,3 @@ module _ (a b : List ℕ) where
 
   pub grown : Grown a (front a) (front (a ++ b))
   grown = begun-grown (eqb (length a) 0) refl
-
--- a whole record lies within the bytes
-pub whole-within : (bytes : List ℕ) (r : Call) → front bytes ≡ whole r → sizeOf r ≤ length bytes
-whole-within bytes r is = go (front bytes) (grown bytes []) is
-  where
-    go : (f : Front) {g : Front} → Grown bytes f g → f ≡ whole r → sizeOf r ≤ length bytes
-    go end (no-byte _) e = absurd (let z : _≡_ {A = ℕ} 0 1 = cc in omega arith)
-    go unknown no-record e = absurd (let z : _≡_ {A = ℕ} 0 1 = cc in omega arith)
-    go short (a-part _) e = absurd (let z : _≡_ {A = ℕ} 0 1 = cc in omega arith)
-    go (whole s) (a-record _ _ all) e = let same : s ≡ r = cc in rw same at all

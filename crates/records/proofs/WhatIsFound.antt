@@ -3,12 +3,14 @@ use mathlib.Core.Path.{_≡_, refl, sym, subst, ap, _∙_}
 use mathlib.Core.List.{List, []}
 use Prim.Native.Nat.{ℕ, _≤_}
 use lib.ListN.{length}
-use Rattle.drive.specs.AnyCall.{loads, cycles, ticks}
+use Rattle.drive.specs.AnyCall.{Call, loads, cycles, ticks}
 use Rattle.records.specs.Decoded.{loadSize, settingsOf}
-use Rattle.records.specs.Front.{Front, end, unknown, short, whole, front, found}
+use Rattle.streams.specs.Run.{Front, end, unknown, short, whole}
+use Rattle.streams.proofs.Grown.{no-byte, no-record, a-part, a-record}
+use Rattle.records.specs.Front.{front, found}
 use Rattle.records.specs.declared.Found.{Found}
 use Rattle.records.specs.declared.Found.the-variants.{End, Unknown, Short, Load, Cycle, Tick}
-use Rattle.records.proofs.MoreBytes.{Grown, no-byte, no-record, a-part, a-record, grown}
+use Rattle.records.proofs.MoreBytes.{Grown, grown}
 
 abbrev pub Meaning : List ℕ → Found → Type 0
 Meaning bytes End = front bytes ≡ end
@@ -21,7 +23,7 @@ Meaning bytes (Tick fields) = front bytes ≡ whole (ticks fields)
 pub meaning : (bytes : List ℕ) (said : Found) → said ≡ found (front bytes) → Meaning bytes said
 meaning bytes said e = subst (Meaning bytes) (sym e) (go (front bytes) (grown bytes []) refl)
   where
-    go : (f : Front) {g : Front} → Grown bytes f g → front bytes ≡ f → Meaning bytes (found f)
+    go : (f : Front Call) {g : Front Call} → Grown bytes f g → front bytes ≡ f → Meaning bytes (found f)
     go end (no-byte _) is = is
     go unknown no-record is = is
     go short (a-part _) is = is

@@ -1,21 +1,15 @@
 -- Document 01, "Report line and program": what stands at the front of a list of bytes.
 use mathlib.Core.Bool.{cond}
-use Prim.Native.Nat.{ℕ, _-_}
+use Prim.Native.Nat.{ℕ}
 use Prim.Native.Char.{code}
 use mathlib.Core.List.{List}
 use lib.Dec.{eqb, ltb}
 use lib.ListN.{length}
 use Rattle.drive.specs.AnyCall.{Call, loads, cycles, ticks}
+use Rattle.streams.specs.Run.{Front, end, unknown, short, whole}
 use Rattle.records.specs.Decoded.{byte, loadSize, settingsOf, cycleSize, cycleOf, tickSize, tickOf}
 use Rattle.records.specs.declared.Found.{Found}
 use Rattle.records.specs.declared.Found.the-variants.{End, Unknown, Short, Load, Cycle, Tick}
-
--- no byte; a byte that begins no record; a record whose last bytes are missing; a whole record, as the call that it asks for
-pub data Front : Type 0 where
-  end : Front
-  unknown : Front
-  short : Front
-  whole : Call → Front
 
 abbrev pub sizeOf : Call → ℕ
 sizeOf (loads numbers) = loadSize
@@ -23,21 +17,21 @@ sizeOf (cycles fields) = cycleSize
 sizeOf (ticks fields) = tickSize
 
 -- the record, where so many bytes hold all of it
-abbrev pub held : ℕ → Call → Front
+abbrev pub held : ℕ → Call → Front Call
 held left r = cond (ltb left (sizeOf r)) short (whole r)
 
 -- "Program shiftline reads records: L ..; C ..; T .."
-abbrev pub begun : ℕ → ℕ → List ℕ → Front
+abbrev pub begun : ℕ → ℕ → List ℕ → Front Call
 begun letter left bytes =
     cond (eqb letter (code "L")) (held left (loads (settingsOf bytes)))
     (cond (eqb letter (code "C")) (held left (cycles (cycleOf bytes)))
     (cond (eqb letter (code "T")) (held left (ticks (tickOf bytes))) unknown))
 
-unfoldable pub front : List ℕ → Front
+unfoldable pub front : List ℕ → Front Call
 front bytes = cond (eqb (length bytes) 0) end (begun (byte 0 bytes) (length bytes) bytes)
 
 -- what the reader hands on: no enum of the code holds an array, so the numbers of a load stay in their bytes
-abbrev pub found : Front → Found
+abbrev pub found : Front Call → Found
 found end = End
 found unknown = Unknown
 found short = Short
@@ -45,12 +39,9 @@ found (whole (loads numbers)) = Load
 found (whole (cycles fields)) = Cycle fields
 found (whole (ticks fields)) = Tick fields
 
--- the shortest record and the longest, and how many bytes a part of a record can have
+-- the shortest record and the longest
 abbrev pub shortest : ℕ
 shortest = cycleSize
 
 abbrev pub longest : ℕ
 longest = loadSize
-
-abbrev pub mostHeld : ℕ
-mostHeld = longest - 1

@@ -1,4 +1,3 @@
 pub mod Decoded
 pub mod Front
 pub mod Run
-pub mod Stream

@@ -16,7 +16,9 @@ ghost use mathlib.Core.Bool.{true};
 ghost use Prim.Native.Nat.{_≤_};
 ghost use lib.ListN.{length, drop};
 ghost use Rattle.report.specs.Refusals.{lineLength, accepts};
-ghost use Rattle.records.specs.Run.{rest, refused, lined, runs, ranOf, outputAfter};
+ghost use Rattle.report.specs.Line.{line};
+ghost use Rattle.streams.specs.Run.{rest, refused, lined, runs, outputAfter};
+ghost use Rattle.records.specs.Run.{shiftline, ranOf};
 
 // Nothing is taken and nothing written.
 pub(crate) fn resting(drive: Drive) -> Ran
@@ -33,8 +35,9 @@ pub(crate) fn resting(drive: Drive) -> Ran
 // The line of a reply, for so many bytes.
 fn answering(reply: Reply, taken: usize, ended: bool, output: &mut [u8]) -> Ran
     requires { ⌜ accepts (reply .answer) (length (now output)) ≡ true ⌝ }
-    ensures result { λ r. ⌜ r ≡ ranOf (lined reply taken ended) ⌝ }
-    ensures lent { λ _. ⌜ now (output .exit) ≡ outputAfter (lined reply taken ended) (now (output .entry)) ⌝ }
+    ensures result { λ r. ⌜ r ≡ ranOf (lined (line (reply .answer)) (reply .drive) taken ended) ⌝ }
+    ensures lent { λ _. ⌜ now (output .exit)
+        ≡ outputAfter (lined (line (reply .answer)) (reply .drive) taken ended) (now (output .entry)) ⌝ }
 {
     let drive = reply.drive;
     let answer = reply.answer;
@@ -50,8 +53,8 @@ fn answering(reply: Reply, taken: usize, ended: bool, output: &mut [u8]) -> Ran
 // A line with number 6 shows the unchanged state.
 fn refusing(drive: Drive, output: &mut [u8]) -> Ran
     requires { ⌜ lineLength ≤ length (now output) ⌝ }
-    ensures result { λ r. ⌜ r ≡ ranOf (refused drive) ⌝ }
-    ensures lent { λ _. ⌜ now (output .exit) ≡ outputAfter (refused drive) (now (output .entry)) ⌝ }
+    ensures result { λ r. ⌜ r ≡ ranOf (refused shiftline drive) ⌝ }
+    ensures lent { λ _. ⌜ now (output .exit) ≡ outputAfter (refused shiftline drive) (now (output .entry)) ⌝ }
 {
     let answer = shown(drive, 6, 0);
     answering(Reply { drive, answer }, 0, true, output)
@@ -59,9 +62,11 @@ fn refusing(drive: Drive, output: &mut [u8]) -> Ran
 
 // One record at most: the run with fuel for one.
 pub(crate) fn step(drive: Drive, input: &[u8], at: usize, closed: bool, output: &mut [u8]) -> Ran
-    ensures result { λ r. ⌜ r ≡ ranOf (runs 1 closed (length (now (output .entry))) (drop at (now (input .entry))) drive) ⌝ }
+    ensures result { λ r. ⌜ r
+        ≡ ranOf (runs shiftline 1 closed (length (now (output .entry))) (drop at (now (input .entry))) drive) ⌝ }
     ensures lent { λ _. ⌜ now (output .exit)
-        ≡ outputAfter (runs 1 closed (length (now (output .entry))) (drop at (now (input .entry))) drive) (now (output .entry)) ⌝ }
+        ≡ outputAfter (runs shiftline 1 closed (length (now (output .entry))) (drop at (now (input .entry))) drive)
+        (now (output .entry)) ⌝ }
 {
     if output.len() < LINE_LENGTH {
         return resting(drive);

@@ -16,7 +16,8 @@ ghost use Prim.Native.Nat.{_≤_};
 ghost use lib.ListN.{length, drop};
 ghost use Rattle.records.specs.Decoded.{settingsIn};
 ghost use Rattle.records.specs.Front.{front, found};
-ghost use Rattle.records.specs.Run.{run, ranOf, outputAfter};
+ghost use Rattle.streams.specs.Run.{run, outputAfter};
+ghost use Rattle.records.specs.Run.{shiftline, ranOf};
 
 // How many bytes a record has: a letter, and then the settings; a byte and two numbers; three bytes and eight numbers.
 pub const LOAD_SIZE: usize = 1 + 2 * SETTING_COUNT;
@@ -96,9 +97,9 @@ pub fn settings_at(input: &[u8], at: usize) -> [u16; SETTING_COUNT]
 // Takes whole records from the front of the input and writes their lines one after the other, until the input holds no whole record
 // or the output has no room for a line. `closed` says that no more input will come.
 pub fn run(drive: Drive, input: &[u8], closed: bool, output: &mut [u8]) -> Ran
-    ensures result { λ r. ⌜ r ≡ ranOf (run closed (length (now (output .entry))) (now (input .entry)) drive) ⌝ }
+    ensures result { λ r. ⌜ r ≡ ranOf (run shiftline closed (length (now (output .entry))) (now (input .entry)) drive) ⌝ }
     ensures lent { λ _. ⌜ now (output .exit)
-        ≡ outputAfter (run closed (length (now (output .entry))) (now (input .entry)) drive) (now (output .entry)) ⌝ }
+        ≡ outputAfter (run shiftline closed (length (now (output .entry))) (now (input .entry)) drive) (now (output .entry)) ⌝ }
     ensures within { λ r. ⌜ (r .taken ≤ length (now (input .entry))) × (r .written ≤ length (now (output .entry))) ⌝ }
 {
     let mut ran = resting(drive);

@@ -3,7 +3,7 @@
 use mathlib.Core.Path.{_≡_, refl, ap, sym}
 use mathlib.Core.Bool.{Bool, cond}
 use mathlib.Core.List.{List}
-use Prim.Native.Nat.{ℕ, zero, suc, _-_, _≤_}
+use Prim.Native.Nat.{ℕ, zero, suc, _-_, _≤_, _<_}
 use native.Mathlib.Omega.{arith}
 use lib.Dec.{ltb, ltb→lt, nltb→le}
 use lib.ListN.{length, drop, length-drop}
@@ -22,6 +22,9 @@ follow-same p closed s short same = refl
 follow-same p closed s (whole r) same = ap (onto (p .line s r) (p .sizeOf r)) (same r refl)
 
 module _ {S R : Type 0} {p : Program S R} (law : Lawful p) where
+  pub a-byte : (r : R) → 0 < p .sizeOf r
+  a-byte r = omega (arith, law .some, law .at-least r)
+
   -- without bytes a run rests
   rests : (fuel : ℕ) (closed : Bool) (room : ℕ) (bytes : List ℕ) (s : S) → length bytes ≤ 0
       → runs p (suc fuel) closed room bytes s ≡ rest s
@@ -52,7 +55,7 @@ module _ {S R : Type 0} {p : Program S R} (law : Lawful p) where
           (λ r is.
           let less = length-drop (p .sizeOf r) bytes in
           same-run fuel more (p .next s r) (behind room other bytes s r alike (law .within bytes r is))
-          (omega (arith, law .some r, less, enough .0), omega (arith, law .some r, less, enough .1)))))
+          (omega (arith, a-byte r, less, enough .0), omega (arith, a-byte r, less, enough .1)))))
 
   -- in one room
   pub any-fuel : (fuel : ℕ) (closed : Bool) (room : ℕ) (bytes : List ℕ) (s : S) → length bytes ≤ fuel

@@ -1,4 +1,5 @@
 pub mod Parts
+pub mod Grown
 pub mod ByFront
 pub mod AnyFuel
 pub mod FirstRecord

@@ -8,7 +8,9 @@ use Rattle.streams.specs.Run.{end, unknown, short, whole, Program, Outco
 
 -- What makes a program one of records: each takes a byte at least, is read off its own bytes alone, and has room for its line.
 pub record Lawful {S R : Type 0} (p : Program S R) : Type 0 where
-  pub some : (r : R) → 0 < p .sizeOf r
+  pub shortest : ℕ
+  pub some : 0 < shortest
+  pub at-least : (r : R) → shortest ≤ p .sizeOf r
   pub fits : (s : S) (r : R) → length (p .line s r) ≤ p .lineRoom
   pub refusal-fits : (s : S) → length (p .refusal s) ≤ p .lineRoom
   pub empty : (bytes : List ℕ) → length bytes ≡ 0 → p .front bytes ≡ end
@@ -57,9 +59,9 @@ module _ {S R : Type 0} (p : Program S R) where
   abbrev pub inOne : List ℕ → S → List ℕ
   inOne bytes s = answers true bytes s .lines
 
-  -- room for the lines of the bytes, were each of them a record, and for one line more
-  abbrev pub Roomy : ℕ → List ℕ → Type 0
-  Roomy room bytes = p .lineRoom * (length bytes + 1) ≤ room
+  -- room for the line of each record that so many bytes can hold, were all of them the shortest, and for one line more
+  abbrev pub Roomy : Lawful p → ℕ → ℕ → Type 0
+  Roomy law room count = p .lineRoom * (count + law .shortest) ≤ law .shortest * room
 
 -- each piece is of this kind
 unfoldable pub Each : (List ℕ → Type 0) → List (List ℕ) → Type 0

@@ -21,8 +21,10 @@ use Rattle.drive.specs.declared.answer.Answer.{Answer}
 use Rattle.report.specs.Refusals.{lineLength, lineVerdict, accepts}
 use Rattle.report.specs.Line.{line, lentAfter}
 use Rattle.report.proofs.Fields.{length-line}
-use Rattle.records.specs.Front.{Front, end, unknown, short, whole, front}
-use Rattle.records.specs.Run.{Outcome, rest, refused, follow, runs, ranOf, outputAfter}
+use Rattle.streams.specs.Run.{Front, end, unknown, short, whole}
+use Rattle.records.specs.Front.{front}
+use Rattle.streams.specs.Run.{Outcome, rest, refused, follow, runs, outputAfter}
+use Rattle.records.specs.Run.{shiftline, ranOf}
 use Rattle.drive.proofs.Settles.{refusal}
 
 -- the table of refusals of a call
@@ -57,14 +59,14 @@ pub behind-the-line : (a : Answer) (lent : List ℕ) → drop lineLength (lentAf
 behind-the-line a lent = behind a lent (accepts a (length lent)) refl
 
 -- a run is not refused as a whole: whatever it comes to, it leaves each byte behind those that it says it wrote
-pub behind-the-lines : (o : Outcome) (lent : List ℕ) → drop (ranOf o .written) (outputAfter o lent) ≡ drop (ranOf o .written) lent
+pub behind-the-lines : (o : Outcome Drive) (lent : List ℕ) → drop (ranOf o .written) (outputAfter o lent) ≡ drop (ranOf o .written) lent
 behind-the-lines o lent = drop-at (o .lines) (drop (length (o .lines)) lent) (length (o .lines)) refl
 
 -- and where its input begins with no whole record, it takes nothing and leaves the state: number 6 or, where more may come, no line
 unread :
-    (closed : Bool) (d : Drive) (f : Front) (onward : Call → Outcome)
+    (closed : Bool) (d : Drive) (f : Front Call) (onward : Call → Outcome Drive)
     → ((r : Call) → f ≡ whole r → ⊥)
-    → (follow closed d f onward ≡ rest d) ⊎ (follow closed d f onward ≡ refused d)
+    → (follow shiftline closed d f onward ≡ rest d) ⊎ (follow shiftline closed d f onward ≡ refused shiftline d)
 unread closed d end onward none = inl refl
 unread closed d unknown onward none = inr refl
 unread true d short onward none = inr refl
@@ -74,10 +76,10 @@ unread closed d (whole r) onward none = absurd (none r refl)
 pub unread-unchanged :
     (fuel : ℕ) (closed : Bool) (room : ℕ) (bytes : List ℕ) (d : Drive)
     → ((r : Call) → front bytes ≡ whole r → ⊥)
-    → (runs fuel closed room bytes d ≡ rest d) ⊎ (runs fuel closed room bytes d ≡ refused d)
+    → (runs shiftline fuel closed room bytes d ≡ rest d) ⊎ (runs shiftline fuel closed room bytes d ≡ refused shiftline d)
 unfolding runs
 unread-unchanged zero closed room bytes d none = inl refl
 unread-unchanged (suc fuel) closed room bytes d none =
-    by-test (λ (o : Outcome). (o ≡ rest d) ⊎ (o ≡ refused d)) (ltb room lineLength)
+    by-test (λ (o : Outcome Drive). (o ≡ rest d) ⊎ (o ≡ refused shiftline d)) (ltb room lineLength)
     (λ tight. inl refl)
     (λ wide. unread closed d (front bytes) _ none)

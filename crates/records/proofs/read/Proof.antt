@@ -10,8 +10,9 @@ use lib.Seq.{getD-drop}
 use borrow.Author.Needs.{needs}
 use borrow.Author.Tests.{eq-eqb, le-ltb, lt-ltb, ne-eqb}
 use Rattle.records.specs.Decoded.{loadSize, cycleSize, tickSize}
-use Rattle.records.specs.Front.{front, end, begun}
-use Rattle.records.proofs.Parts.{tail}
+use Rattle.streams.specs.Run.{end}
+use Rattle.records.specs.Front.{front, begun}
+use Rattle.streams.proofs.Parts.{tail}
 use Rattle.records.proofs.read.Statement.{statement}
 use Rattle.records.proofs.read.Tie as tie
 

@@ -1,28 +1,52 @@
 -- `run` keeps the whole answer in sight: the lines written so far, and then the run over what is left, are the run over everything.
-use mathlib.Core.Path.{ap}
-use Prim.Native.Nat.{_+_, _-_, _≤_}
+use mathlib.Core.Path.{_≡_, ap}
+use mathlib.Core.Bool.{Bool}
+use Prim.Native.Nat.{ℕ, _+_, _-_, _≤_}
 use native.Mathlib.Omega.{arith}
 use lib.ListN.{length}
 use mir.Syntax.{w64}
 use mir.Val.{Fits}
 use borrow.Author.Needs.{needs}
+use Rattle.drive.specs.declared.Drive.{Drive}
+use Rattle.streams.specs.Run.{Outcome}
+use Rattle.streams.proofs.LoopOfRun.{Told, Ongoing, at-start, length-output, Stepped, stepped}
+use Rattle.records.specs.Run.{shiftline, ranOf}
 use Rattle.records.specs.declared.Ran.{Ran}
-use Rattle.records.proofs.LoopOfRun.{Ongoing, at-start, length-output, Stepped, stepped}
+use Rattle.records.proofs.Laws.{lawful}
 use Rattle.records.proofs.run.Statement.{statement}
 use Rattle.records.proofs.run.Tie as tie
 
 abbrev Inv-loop : tie.InvT-loop
-Inv-loop input closed output₀ ran₀ output ran = Ongoing input closed output₀ (ran₀ .drive) output ran
+Inv-loop input closed output₀ ran₀ output ran =
+    Ongoing shiftline input closed output₀ (ran₀ .drive) output (ran .taken) (ran .written) (ran .drive)
 
 abbrev μ-loop : tie.MeasureT-loop
 μ-loop input closed output₀ ran₀ output ran = length input - ran .taken
 
+-- what a step tells, and what the run tells of all its steps
+told : {o : Outcome Drive} {r : Ran} → r ≡ ranOf o → Told o (r .drive) (r .taken) (r .written) (r .ended)
+told is =
+    record {
+      state-is = ap (λ (r : Ran). r .drive) is;
+      taken-is = ap (λ (r : Ran). r .taken) is;
+      written-is = ap (λ (r : Ran). r .written) is;
+      ended-is = ap (λ (r : Ran). r .ended) is;
+    }
+
+abbrev ran : Drive → ℕ → ℕ → Bool → Ran
+ran d taken written ended = record { drive = d; taken = taken; written = written; ended = ended }
+
+all-told : {o : Outcome Drive} {d : Drive} {taken written : ℕ} {ended : Bool}
+    → Told o d taken written ended → ran d taken written ended ≡ ranOf o
+all-told t = rw (t .state-is, t .taken-is, t .written-is, t .ended-is)
+
 room : (c : tie.After-drive Inv-loop μ-loop) → c .before .loop .ran .written ≤ length (c .before .loop .output)
-room c = omega (arith, length-output (c .before .loop .inv), c .before .loop .inv .room)
+room c = omega (arith, length-output lawful (c .before .loop .inv), c .before .loop .inv .room)
 
 after : (c : tie.After-step Inv-loop μ-loop)
-    → Stepped (c .before .before .before .loop .inv) (c .step .result) (c .step .last .1 .1 .1 .1 .0)
-after c = stepped (c .before .before .before .loop .inv) (c .step .ensures .0) (c .step .ensures .1)
+    → Stepped lawful (c .before .before .before .loop .inv) (c .step .result .drive) (c .step .result .taken)
+    (c .step .result .written) (c .step .result .ended) (c .step .last .1 .1 .1 .1 .0)
+after c = stepped lawful (c .before .before .before .loop .inv) (told (c .step .ensures .0)) (c .step .ensures .1)
 
 -- what is taken and what is written are within the buffers, whose lengths a usize holds
 sums : (c : tie.After-step Inv-loop μ-loop)
@@ -38,12 +62,12 @@ returns c =
     let start = step .before .before .before .before in
     let last = c .if1 .taken in
     rw (← ap (λ (r : Ran). r .drive) (start .resting .ensures))
-    (after step .answer last, (after step .leaves last, (after step .taken-within, after step .filled-within)))
+    (all-told (after step .answer last), (after step .leaves last, (after step .taken-within, after step .filled-within)))
 
 pub run-spec : {M : Type 1} → statement M
 run-spec =
     tie.close (tie.spec Inv-loop μ-loop (search needs)
-    (λ c. rw (c .resting .ensures) (at-start _ _ _ _))
+    (λ c. rw (c .resting .ensures) (at-start shiftline _ _ _ _))
     (λ c. room c)
     (λ c. room c)
     (search needs) (search needs)

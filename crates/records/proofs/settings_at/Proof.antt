@@ -10,7 +10,7 @@ use denote.Ref.{now}
 use borrow.Author.Needs.{needs}
 use borrow.Author.Tests.{lt-ltb, le-ltb}
 use Rattle.records.specs.Decoded.{loadSize}
-use Rattle.records.proofs.Parts.{tail}
+use Rattle.streams.proofs.Parts.{tail}
 use Rattle.records.proofs.settings_at.Statement.{statement}
 use Rattle.records.proofs.settings_at.Tie as tie
 

@@ -11,7 +11,8 @@ use borrow.Author.Needs.{needs}
 use borrow.Author.Tests.{eq-eqb, ne-eqb, lt-ltb, le-ltb}
 use Rattle.numbers.proofs.Tests.{decide}
 use Rattle.settings.specs.Settings.{settingCount}
-use Rattle.drive.specs.AnyCall.{loads, cycles, ticks}
+use Rattle.drive.specs.AnyCall.{Call, loads, cycles, ticks}
+use Rattle.streams.specs.Run.{Front, end, unknown, short, whole}
 use Rattle.records.specs.Front as shiftline
 use Rattle.records.specs.declared.Found as read-found
 use Rattle.records.proofs.Numbers.{length-numbers}
@@ -30,14 +31,14 @@ again read-found.the-variants.Load = Load 1 settingCount
 again (read-found.the-variants.Cycle fields) = Cycle fields
 again (read-found.the-variants.Tick fields) = Tick fields
 
-told-again : (f : shiftline.Front) → found (asShiftline f) ≡ again (shiftline.found f)
+told-again : (f : Front Call) → found (asShiftline f) ≡ again (shiftline.found f)
 unfolding again
-told-again shiftline.end = refl
-told-again shiftline.unknown = refl
-told-again shiftline.short = refl
-told-again (shiftline.whole (loads given)) = refl
-told-again (shiftline.whole (cycles fields)) = refl
-told-again (shiftline.whole (ticks fields)) = refl
+told-again end = refl
+told-again unknown = refl
+told-again short = refl
+told-again (whole (loads given)) = refl
+told-again (whole (cycles fields)) = refl
+told-again (whole (ticks fields)) = refl
 
 module _ (l : List ℕ) (at : ℕ) where
   letter : getD (drop at l) 0 0 ≡ getD l at 0

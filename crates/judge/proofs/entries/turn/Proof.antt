@@ -9,7 +9,9 @@ use denote.Ref.{now}
 use borrow.Author.Needs.{needs}
 use borrow.Author.Tests.{le-ltb}
 use Rattle.records.specs.Decoded.{loadSize, settingsIn, settingsOf}
-use Rattle.records.specs.Front.{Front, front}
+use Rattle.drive.specs.AnyCall.{Call}
+use Rattle.streams.specs.Run.{Front}
+use Rattle.records.specs.Front.{front}
 use Rattle.records.specs.declared.Found.{Found}
 use Rattle.records.specs.declared.Found.the-variants.{End, Unknown, Short, Load, Cycle, Tick}
 use Rattle.records.proofs.WhatIsFound.{Meaning, meaning}
@@ -75,7 +77,7 @@ module _ (c : tie.After-read) where
       in
       rw size
 
-  at-front : {f : Front} → front input ≡ f
+  at-front : {f : Front Call} → front input ≡ f
       → turn (start .args .closed) input (start .args .finished) lines (start .args .judge)
       ≡ follow (start .args .closed) (start .args .judge) lent f
   at-front is =
@@ -86,7 +88,7 @@ module _ (c : tie.After-read) where
       ∙ rw line-is
 
   -- where it is known whether more records may come
-  at-closed : {f : Front} {closed : Bool} → start .args .closed ≡ closed → front input ≡ f
+  at-closed : {f : Front Call} {closed : Bool} → start .args .closed ≡ closed → front input ≡ f
       → turn (start .args .closed) input (start .args .finished) lines (start .args .judge) ≡ follow closed (start .args .judge) lent f
   at-closed {f} known is = at-front is ∙ ap (λ (b : Bool). follow b (start .args .judge) lent f) known
 

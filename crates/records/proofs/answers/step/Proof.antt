@@ -10,23 +10,26 @@ use borrow.Author.Needs.{needs}
 use Rattle.drive.specs.AnyCall.{Call, loads, cycles, ticks, reply}
 use Rattle.drive.specs.declared.answer.Reply.{Reply}
 use Rattle.records.specs.Decoded.{loadSize, settingsOf}
-use Rattle.records.specs.Front.{sizeOf, Front, whole, front}
-use Rattle.records.specs.Run.{Outcome, rest, refused, lined, follow, runs, ranOf, outputAfter}
+use Rattle.drive.specs.declared.Drive.{Drive}
+use Rattle.report.specs.Line.{line}
+use Rattle.streams.specs.Run.{Front, whole, Outcome, rest, refused, lined, follow, runs, outputAfter}
+use Rattle.streams.proofs.Parts.{tail}
+use Rattle.streams.proofs.ByFront.{at-tight, one-front, one-whole}
+use Rattle.records.specs.Front.{sizeOf, front}
+use Rattle.records.specs.Run.{shiftline, ranOf}
 use Rattle.records.specs.declared.Ran.{Ran}
 use Rattle.records.specs.declared.Found.{Found}
 use Rattle.records.specs.declared.Found.the-variants.{End, Unknown, Short, Load, Cycle, Tick}
-use Rattle.records.proofs.Parts.{tail}
 use Rattle.records.proofs.Printed.{reply-printed}
 use Rattle.records.proofs.WhatIsFound.{Meaning, meaning}
-use Rattle.records.proofs.ByFront.{at-tight, one-front, one-whole}
 use Rattle.records.proofs.answers.step.Statement.{statement}
 use Rattle.records.proofs.answers.step.Tie as tie
 
 -- what was done is what the definition says, where that comes to `o`
-abbrev Met : Outcome → List ℕ → Ran → List ℕ → Type 0
+abbrev Met : Outcome Drive → List ℕ → Ran → List ℕ → Type 0
 Met o lent result left = (result ≡ ranOf o) × (left ≡ outputAfter o lent)
 
-met : (lent : List ℕ) {said o : Outcome} {result : Ran} {left : List ℕ} → said ≡ o
+met : (lent : List ℕ) {said o : Outcome Drive} {result : Ran} {left : List ℕ} → said ≡ o
     → Met o lent result left → Met said lent result left
 met lent is done = rw is done
 
@@ -41,26 +44,26 @@ module _ (c : tie.After-read) where
   means : (said : Found) → c .read .result ≡ said → Meaning bytes said
   means said known = meaning bytes said (sym known ∙ c .read .ensures)
 
-  abbrev meant : Outcome
-  meant = runs 1 (start .args .closed) (length (now (start .args .output))) bytes (start .args .drive)
+  abbrev meant : Outcome Drive
+  meant = runs shiftline 1 (start .args .closed) (length (now (start .args .output))) bytes (start .args .drive)
 
   -- what the definition does about what stands at the front; and about a part of a record
-  at-front : {f : Front} → front bytes ≡ f
-      → meant ≡ follow (start .args .closed) (start .args .drive) f (λ (r : Call). rest (reply (start .args .drive) r .drive))
-  at-front is = one-front _ _ _ _ (c .before .if1 .left) is
+  at-front : {f : Front Call} → front bytes ≡ f
+      → meant ≡ follow shiftline (start .args .closed) (start .args .drive) f (λ (r : Call). rest (reply (start .args .drive) r .drive))
+  at-front is = one-front shiftline _ _ _ _ (c .before .if1 .left) is
 
   at-short : c .read .result ≡ Short → {closed : Bool} → start .args .closed ≡ closed
-      → meant ≡ cond closed (refused (start .args .drive)) (rest (start .args .drive))
+      → meant ≡ cond closed (refused shiftline (start .args .drive)) (rest (start .args .drive))
   at-short known is =
       let d = start .args .drive in
-      at-front (means Short known) ∙ ap (λ (b : Bool). cond b (refused d) (rest d)) is
+      at-front (means Short known) ∙ ap (λ (b : Bool). cond b (refused shiftline d) (rest d)) is
 
   -- a whole record, and the reply to it
   module _ (r : Call) (is : front bytes ≡ whole r) {said : Reply} (same : said ≡ reply (start .args .drive) r) where
     replied : {result : Ran} {left : List ℕ}
-        → Met (lined said (sizeOf r) false) (now (start .args .output)) result left
+        → Met (lined (line (said .answer)) (said .drive) (sizeOf r) false) (now (start .args .output)) result left
         → Met meant (now (start .args .output)) result left
-    replied done = met _ (one-whole _ _ _ _ (c .before .if1 .left) r is) (rw same at done)
+    replied done = met _ (one-whole shiftline _ _ _ _ (c .before .if1 .left) r is) (rw same at done)
 
 loaded : (c : tie.After-enum-told4) → Meaning (bytes (c .before .before)) Load
 loaded c = means (c .before .before) Load (c .enum-told4 .given .1)
@@ -121,7 +124,7 @@ returns-8 c =
 pub step-spec : {M : Type 1} → statement M
 step-spec =
     tie.close (tie.spec (search needs)
-    (λ c. met _ (at-tight 0 _ _ _ _ (c .before .if1 .taken)) (c .resting .ensures, refl))
+    (λ c. met _ (at-tight shiftline 0 _ _ _ _ (c .before .if1 .taken)) (c .resting .ensures, refl))
     (search needs) (search needs) (search needs) (search needs) (search needs) (search needs) (search needs)
     (search needs) (search needs)
     (λ c. omega (arith, fits c))
