@@ -32,6 +32,9 @@ some-left : (bytes : List ℕ) (at : ℕ) → at < length bytes
     → front (drop at bytes) ≡ begun (getD bytes at 0) (length bytes - at) (drop at bytes)
 some-left bytes at within = rw (from bytes at, ne-eqb (length bytes - at) 0 (λ none. omega (arith, none)))
 
+returns : tie.Need-returns
+returns c = rw (none-left _ _ (c .if1 .taken))
+
 returns-2 : tie.Need-returns-2
 returns-2 c =
     rw (some-left _ _ (c .before .before .before .if1 .left), eq-eqb _ _ (c .before .if2 .taken), lt-ltb _ loadSize (c .if3 .taken))
@@ -100,7 +103,6 @@ returns-8 c =
 
 pub read-spec : {M : Type 1} → statement M
 read-spec =
-    tie.close (tie.spec
-    (λ c. rw (none-left _ _ (c .if1 .taken)))
+    tie.close (tie.spec returns
     (search needs) (search needs) returns-2 returns-3 returns-4 (search needs) (search needs) (search needs)
     (search needs) returns-5 returns-6 (search needs) (search needs) (search needs) (search needs) returns-7 returns-8)
