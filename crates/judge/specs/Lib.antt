@@ -1,5 +1,6 @@
 pub mod NextLine
 pub mod Judged
+pub mod Hearing
 pub mod Run
 pub mod Sentences
 pub mod Printed
