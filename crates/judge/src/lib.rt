@@ -4,6 +4,7 @@ mod fronts;
 mod hearing;
 mod picks;
 pub mod sentences;
+mod words;
 
 use drive::Drive;
 use entries::onward;
