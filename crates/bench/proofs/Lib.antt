@@ -1,6 +1,7 @@
 pub mod Grown
 pub mod Meaning
 pub mod Lengths
+pub mod Pages
 pub mod Laws
 pub mod Stream
 -- Of the promises themselves.

@@ -1,3 +1,4 @@
 pub mod Table
 pub mod Line
+pub mod Pages
 pub mod Benchline

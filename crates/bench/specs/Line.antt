@@ -21,6 +21,15 @@ motorLine answer =
     ++ (decimal (answer .offsets .second) ++ text " ")
     ++ (decimal (answer .retries) ++ text "\n")
 
+-- its first five numbers
+unfoldable pub motorFront : Answer → List ℕ
+motorFront answer =
+    (decimal (answer .number) ++ text " ")
+    ++ (decimal (answer .place) ++ text " ")
+    ++ (decimal (answer .state) ++ text " ")
+    ++ (decimal (answer .gate) ++ text " ")
+    ++ (decimal (answer .live) ++ text " ")
+
 -- "prints the line `?`"
 unfoldable pub refusalLine : List ℕ
 refusalLine = text "?\n"

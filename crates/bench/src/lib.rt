@@ -43,16 +43,12 @@ pub fn run(drive: Drive, input: &[u8], closed: bool, output: &mut [u8]) -> Ran
     loop {
         let taken = ran.taken;
         let written = ran.written;
-        let drive = ran.drive;
-        let one = step(drive, input, taken, closed, &mut output[written..]);
-        let drive = one.drive;
-        ran = Ran {
-            drive,
-            taken: taken + one.taken,
-            written: written + one.written,
-            ended: one.ended,
-        };
-        if one.taken == 0 {
+        let mut one = step(ran.drive, input, taken, closed, &mut output[written..]);
+        let last = one.taken == 0;
+        one.taken = taken + one.taken;
+        one.written = written + one.written;
+        ran = one;
+        if last {
             return ran;
         }
     }

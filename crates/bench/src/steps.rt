@@ -12,8 +12,10 @@ use records::CYCLE_SIZE;
 use records::TICK_SIZE;
 ghost use mathlib.Core.Path.{_≡_};
 ghost use mathlib.Core.Bool.{false};
-ghost use Prim.Native.Nat.{_≤_};
+ghost use Prim.Native.Nat.{_+_, _*_, _≤_};
 ghost use lib.ListN.{length, drop};
+ghost use Rattle.drive.specs.Calls.{load};
+ghost use Rattle.records.specs.Decoded.{numbers};
 ghost use Rattle.streams.specs.Run.{rest, lined, refused, runs, outputAfter};
 ghost use Rattle.bench.specs.Line.{lineRoom, motorLine};
 ghost use Rattle.bench.specs.Benchline.{benchline, ranOf};
@@ -28,6 +30,22 @@ pub(crate) fn resting(drive: Drive) -> Ran
         written: 0,
         ended: false,
     }
+}
+
+// The reply to a load: so many numbers, from such a place of the record on.
+fn loaded(drive: Drive, input: &[u8], at: usize, first: u8, count: u8) -> Reply
+    requires { ⌜ (at ≤ length (now input)) × (first + 2 * count ≤ length (drop at (now input))) ⌝ }
+    ensures { λ r. ⌜ r ≡ load drive (numbers count first (drop at (now (input .entry)))) ⌝ }
+{
+    let count = count as usize;
+    let numbers = numbers_of(&input[at..], first as usize, count);
+    drive.load(&numbers[..count])
+}
+
+fn load_size(first: u8, count: u8) -> usize
+    ensures { λ r. ⌜ r ≡ first + 2 * count ⌝ }
+{
+    (first as usize) + 2 * (count as usize)
 }
 
 // The line of a reply, for so many bytes.
@@ -84,12 +102,11 @@ pub(crate) fn step(drive: Drive, input: &[u8], at: usize, closed: bool, output: 
                 resting(drive)
             }
         }
-        Found::Load(first, count) => {
-            let first = first as usize;
-            let count = count as usize;
-            let numbers = numbers_of(&input[at..], first, count);
-            answering(drive.load(&numbers[..count]), first + 2 * count, output)
-        }
+        Found::Load(first, count) => answering(
+            loaded(drive, input, at, first, count),
+            load_size(first, count),
+            output,
+        ),
         Found::Cycle(fields) => answering(drive.cycle(fields), CYCLE_SIZE, output),
         Found::Tick(fields) => answering(drive.tick(fields), TICK_SIZE, output),
     }

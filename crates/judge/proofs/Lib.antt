@@ -1,5 +1,6 @@
 pub mod Turns
 pub mod Said
+pub mod Pages
 pub mod Silent
 pub mod First
 pub mod Fed

@@ -7,7 +7,9 @@ use borrow.Author.Tests.{lt-ltb, le-ltb, ne-eqb}
 use Rattle.text.specs.Text.{text}
 use Rattle.onlooker.specs.declared.past.Rules.{Rules}
 use Rattle.judge.specs.Judged.{missing, leftOver, unreadable, refused}
-use Rattle.judge.specs.Sentences.{gap, about, differing, broken, gatesWords, exitWords, retriesWords, breaking, ending}
+use Rattle.judge.specs.Sentences.{sameWords, differsWords, foundWords, keptWords, gatesWords, exitWords, retriesWords}
+use Rattle.judge.specs.Sentences.{missingWords, leftOverWords, unreadableWords, refusedWords}
+use Rattle.judge.specs.Sentences.{gap, about, differing, broken, breaking, ending}
 
 module _ (n : ℕ) where
   pub gap-1 : n < 10 → gap n ≡ text "      "
@@ -31,17 +33,17 @@ module _ (n : ℕ) where
   gap-5 a b c d = rw (le-ltb n 10 a, le-ltb n 100 b, le-ltb n 1000 c, le-ltb n 10000 d)
 
   pub same-lines : (expected found : List ℕ) → n ≡ 0
-      → differing n expected found ≡ text "no line of these differs from what the supervisor answers\n"
+      → differing n expected found ≡ sameWords
   unfolding differing
   same-lines expected found none = rw none
 
   pub other-line : (expected found : List ℕ) → (n ≡ 0 → ⊥)
       → differing n expected found
-      ≡ about n (text "the line differs from what the supervisor answers\n  expected ") ++ expected ++ text "  found    " ++ found
+      ≡ about n differsWords ++ expected ++ foundWords ++ found
   unfolding differing
   other-line expected found some = rw (ne-eqb n 0 some)
 
-  pub demand-kept : (rules : Rules) → n ≡ 0 → breaking n rules ≡ text "none of these breaks demand 3\n"
+  pub demand-kept : (rules : Rules) → n ≡ 0 → breaking n rules ≡ keptWords
   unfolding breaking
   demand-kept rules none = rw none
 
@@ -59,21 +61,21 @@ module _ (n : ℕ) where
   unfolding broken
   rule-broken holds words e = rw e
 
-  pub at-missing : (end : ℕ) → end ≡ missing → ending end n ≡ about n (text "has no line: the lines end before it\n")
+  pub at-missing : (end : ℕ) → end ≡ missing → ending end n ≡ about n missingWords
   unfolding ending
   at-missing end is = rw is
 
   pub at-left-over : (end : ℕ) → end ≡ leftOver
-      → ending end n ≡ about n (text "is not there: the records end, and lines are left over\n")
+      → ending end n ≡ about n leftOverWords
   unfolding ending
   at-left-over end is = rw is
 
   pub at-unreadable : (end : ℕ) → end ≡ unreadable
-      → ending end n ≡ about n (text "has a line that cannot be read: nothing behind it is judged\n")
+      → ending end n ≡ about n unreadableWords
   unfolding ending
   at-unreadable end is = rw is
 
-  pub at-refused : (end : ℕ) → end ≡ refused → ending end n ≡ about n (text "is unknown or cut short: the run ends there\n")
+  pub at-refused : (end : ℕ) → end ≡ refused → ending end n ≡ about n refusedWords
   unfolding ending
   at-refused end is = rw is
 

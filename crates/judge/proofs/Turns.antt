@@ -8,13 +8,14 @@ use mathlib.Core.List.{List, []}
 use lib.Dec.{eqb}
 use lib.ListN.{length, length-take}
 use Rattle.numbers.proofs.Tests.{by-test}
-use Rattle.drive.specs.AnyCall.{Call}
+use Rattle.drive.specs.AnyCall.{Call, loads, cycles, ticks}
 use Rattle.streams.specs.Run.{Front, end, unknown, short, whole}
-use Rattle.records.specs.Front.{front}
+use Rattle.records.specs.Front.{front, found}
 use Rattle.streams.proofs.Grown.{no-byte, no-record, a-part, a-record}
 use Rattle.records.proofs.MoreBytes.{Grown, grown}
 use Rattle.judge.specs.NextLine.{nextLine, lineOf}
-use Rattle.judge.specs.Run.{wantsTurn, follow, turn, onward, runs}
+use Rattle.judge.specs.Judged.{endedBy}
+use Rattle.judge.specs.Run.{wantsTurn, wantsRecords, wantsNothing, wanting, told, wantedBy, judgedBy, follow, turn, onward, runs}
 use Rattle.judge.specs.declared.Judge.{Judge}
 use Rattle.judge.specs.declared.Ran.{Ran}
 
@@ -44,13 +45,40 @@ turn-within closed input finished lines j =
         by-test (Within input lines) closed (λ _. (omega arith, line-within lines)) (λ _. (omega arith, omega arith))
     go (whole _) (a-record call off all) = (all, line-within lines)
 
--- where it does not wait for a line, it does what stands at the front of the records
-pub follows : (closed : Bool) (input : List ℕ) (finished : Bool) (lines : List ℕ) (j : Judge) {f : Front Call}
-    → (not (nextLine lines .whole) && not finished) ≡ false
-    → front input ≡ f
-    → turn closed input finished lines j ≡ follow closed j (lineOf lines) f
-unfolding turn
-follows closed input finished lines j there is = rw (there, is)
+-- what stands at the front is done by what it leaves to want: more records, nothing more, or an entry
+pub at-wait : (closed : Bool) (j : Judge) (line : List ℕ) (f : Front Call) → wantedBy closed (found f) ≡ wantsRecords
+    → follow closed j line f ≡ wanting j wantsRecords
+at-wait true j line end is = absurd (omega arith)
+at-wait false j line end is = refl
+at-wait true j line short is = absurd (omega arith)
+at-wait false j line short is = refl
+at-wait closed j line unknown is = absurd (omega arith)
+at-wait closed j line (whole (loads numbers)) is = absurd (omega arith)
+at-wait closed j line (whole (cycles fields)) is = absurd (omega arith)
+at-wait closed j line (whole (ticks fields)) is = absurd (omega arith)
+
+pub at-end : (closed : Bool) (j : Judge) (line : List ℕ) (f : Front Call) → wantedBy closed (found f) ≡ wantsNothing
+    → follow closed j line f ≡ told (endedBy j line) 0 0
+at-end true j line end is = refl
+at-end false j line end is = absurd (omega arith)
+at-end true j line short is = absurd (omega arith)
+at-end false j line short is = absurd (omega arith)
+at-end closed j line unknown is = absurd (omega arith)
+at-end closed j line (whole (loads numbers)) is = absurd (omega arith)
+at-end closed j line (whole (cycles fields)) is = absurd (omega arith)
+at-end closed j line (whole (ticks fields)) is = absurd (omega arith)
+
+pub at-entry : (closed : Bool) (j : Judge) (line : List ℕ) (f : Front Call)
+    → (wantedBy closed (found f) ≡ wantsRecords → ⊥)
+    → (wantedBy closed (found f) ≡ wantsNothing → ⊥)
+    → follow closed j line f ≡ judgedBy j line f
+unfolding judgedBy
+at-entry true j line end more over = absurd (over refl)
+at-entry false j line end more over = absurd (more refl)
+at-entry true j line short more over = refl
+at-entry false j line short more over = absurd (more refl)
+at-entry closed j line unknown more over = refl
+at-entry closed j line (whole call) more over = refl
 
 -- a run ends with the turn that wants no other
 pub stops : (fuel : ℕ) (closed : Bool) (input : List ℕ) (finished : Bool) (lines : List ℕ) (ran : Ran)

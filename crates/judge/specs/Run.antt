@@ -7,8 +7,13 @@ use lib.ListN.{length, drop}
 use Rattle.drive.specs.AnyCall.{Call}
 use Rattle.streams.specs.Run.{Front, end, unknown, short, whole}
 use Rattle.records.specs.Front.{sizeOf, front}
+use Rattle.records.specs.declared.Found.{Found}
+use Rattle.records.specs.declared.Found.the-variants.{End, Unknown, Short, Load, Cycle, Tick}
+use Rattle.lines.specs.Shown.{shownBy}
 use Rattle.judge.specs.NextLine.{nextLine, lineOf}
-use Rattle.judge.specs.Judged.{going, judgeCall, judgeRefusal, endedBy}
+use Rattle.judge.specs.Judged.{going, answerOf, entryWith, judgeCall, judgeRefusal, endedBy}
+use Rattle.judge.specs.Hearing.{heardAt}
+use Rattle.judge.specs.declared.hearing.Heard.{Heard}
 use Rattle.judge.specs.declared.Judge.{Judge}
 use Rattle.judge.specs.declared.Ran.{Ran}
 
@@ -39,6 +44,20 @@ follow closed j line end = cond closed (told (endedBy j line) 0 0) (wanting j wa
 follow closed j line unknown = told (judgeRefusal j line) 0 (length line)
 follow closed j line short = cond closed (told (judgeRefusal j line) 0 (length line)) (wanting j wantsRecords)
 follow closed j line (whole call) = told (judgeCall j call line) (sizeOf call) (length line)
+
+-- the steps in which the code does it: what the reader's answer leaves to want, and an entry, whatever the record is
+abbrev pub wantedBy : Bool → Found → ℕ
+wantedBy closed End = cond closed wantsNothing wantsRecords
+wantedBy closed Short = cond closed wantsTurn wantsRecords
+wantedBy closed Unknown = wantsTurn
+wantedBy closed Load = wantsTurn
+wantedBy closed (Cycle fields) = wantsTurn
+wantedBy closed (Tick fields) = wantsTurn
+
+unfoldable pub judgedBy : Judge → List ℕ → Front Call → Ran
+judgedBy j line f =
+    let heard : Heard = heardAt (j .drive) (j .onlooker) (answerOf (shownBy line)) f in
+    told (entryWith j (heard .reply) (heard .onlooker) (shownBy line .good) (heard .end) line) (heard .size) (length line)
 
 -- a line without its line feed is waited for while more bytes may come
 unfoldable pub turn : Bool → List ℕ → Bool → List ℕ → Judge → Ran

@@ -7,11 +7,12 @@ use crate::MISSING;
 use crate::NOTHING;
 use crate::OVER;
 use crate::RECORDS;
-use crate::REFUSED;
 use crate::Ran;
 use crate::TURN;
 use crate::UNREADABLE;
 use crate::fronts::next_line;
+use crate::hearing::Heard;
+use crate::hearing::hear;
 use crate::picks::one_more;
 use crate::picks::pick_line;
 use crate::picks::pick_onlooker;
@@ -20,28 +21,17 @@ use crate::picks::pick_u8;
 use crate::picks::pick_u64;
 use check::same;
 use drive::answer::Answer;
-use drive::answer::Reply;
-use drive::answer::answered;
 use drive::offsets::Pair;
-use fields::Cycle;
-use fields::Tick;
 use lines::Shown;
-use onlooker::Onlooker;
 use onlooker::past::Rules;
-use records::CYCLE_SIZE;
 use records::Found;
-use records::LOAD_SIZE;
-use records::TICK_SIZE;
-use records::settings_at;
 use report::LINE_LENGTH;
 ghost use mathlib.Core.Path.{_≡_};
 ghost use Prim.Native.Nat.{_≤_};
 ghost use lib.ListN.{length, drop};
-ghost use Rattle.drive.specs.AnyCall.{loads, cycles, ticks};
-ghost use Rattle.records.specs.Decoded.{loadSize, cycleSize, tickSize};
-ghost use Rattle.judge.specs.Judged.{answerOf, kept, lineFor, lineKept, differsNow, breaksNow};
-ghost use Rattle.judge.specs.Judged.{entryWith, judgeCall, judgeRefusal, endedBy};
-ghost use Rattle.judge.specs.Run.{told, wanting, turn, onward};
+ghost use Rattle.records.specs.Front.{front, found as readAs};
+ghost use Rattle.judge.specs.Judged.{answerOf, kept, lineFor, lineKept, differsNow, breaksNow, entryWith, endedBy};
+ghost use Rattle.judge.specs.Run.{told, wanting, wantedBy, judgedBy, follow, turn, onward};
 
 // The board's answer, as far as its line shows it to the onlooker; what it does not read is 0.
 fn answer_of(shown: Shown) -> Answer
@@ -102,11 +92,13 @@ fn breaks_now(before: u64, good: bool, rules: Rules) -> bool
     good & (before == 0) & !kept(rules)
 }
 
-// A record that the supervisor answers so, heard with the board's own answer so.
-fn entry(judge: Judge, reply: Reply, heard: Onlooker, good: bool, end: u8, line: &[u8]) -> Judge
-    ensures { λ r. ⌜ r ≡ entryWith judge reply heard good end (now (line .entry)) ⌝ }
+// A record that the supervisor and the onlooker took so.
+fn entry(judge: Judge, heard: Heard, good: bool, line: &[u8]) -> Judge
+    ensures { λ r. ⌜ r ≡ entryWith judge (heard .reply) (heard .onlooker) good (heard .end) (now (line .entry)) ⌝ }
 {
+    let reply = heard.reply;
     let drive = reply.drive;
+    let after = heard.onlooker;
     let before = judge.onlooker;
     let first_expected = judge.expected;
     let first_found = judge.found;
@@ -114,17 +106,17 @@ fn entry(judge: Judge, reply: Reply, heard: Onlooker, good: bool, end: u8, line:
     let found = line_kept(line);
     let number = one_more(before.past.heard);
     let differs = differs_now(judge.differs, good, expected, line);
-    let breaks = breaks_now(judge.breaks, good, heard.rules);
+    let breaks = breaks_now(judge.breaks, good, after.rules);
     let stopped = pick_u8(line.len() == 0, MISSING, UNREADABLE);
     Judge {
         drive,
-        onlooker: pick_onlooker(good, heard, before),
+        onlooker: pick_onlooker(good, after, before),
         differs: pick_u64(differs, number, judge.differs),
         expected: pick_line(differs, expected, first_expected),
         found: pick_line(differs, found, first_found),
         breaks: pick_u64(breaks, number, judge.breaks),
-        rules: pick_rules(breaks, heard.rules, judge.rules),
-        end: pick_u8(good, end, stopped),
+        rules: pick_rules(breaks, after.rules, judge.rules),
+        end: pick_u8(good, heard.end, stopped),
     }
 }
 
@@ -151,78 +143,59 @@ fn wanting(judge: Judge, wants: u8) -> Ran
 }
 
 // The records are over.
-fn ended(judge: Judge, line: &[u8]) -> Ran
+fn ended(mut judge: Judge, line: &[u8]) -> Ran
     ensures { λ r. ⌜ r ≡ told (endedBy judge (now (line .entry))) 0 0 ⌝ }
 {
-    let end = pick_u8(line.len() == 0, OVER, LEFT_OVER);
-    told(Judge { end, ..judge }, 0, 0)
+    judge.end = pick_u8(line.len() == 0, OVER, LEFT_OVER);
+    told(judge, 0, 0)
 }
 
-// What is no record makes no call.
-fn refusal(judge: Judge, line: &[u8]) -> Ran
-    ensures { λ r. ⌜ r ≡ told (judgeRefusal judge (now (line .entry))) 0 (length (now (line .entry))) ⌝ }
+// What the front of the records leaves to want: more of them, nothing where they are over, or a turn.
+fn wanted(found: Found, closed: bool) -> u8
+    ensures { λ r. ⌜ r ≡ wantedBy closed found ⌝ }
 {
-    let drive = judge.drive;
-    let same = judge.onlooker;
-    let answer = answered(drive, 6, 0);
-    let good = lines::read(line).good;
-    told(
-        entry(judge, Reply { drive, answer }, same, good, REFUSED, line),
-        0,
-        line.len(),
-    )
+    match found {
+        Found::End => pick_u8(closed, NOTHING, RECORDS),
+        Found::Short => pick_u8(closed, TURN, RECORDS),
+        Found::Unknown => TURN,
+        Found::Load => TURN,
+        Found::Cycle(_) => TURN,
+        Found::Tick(_) => TURN,
+    }
 }
 
-fn load(judge: Judge, numbers: [u16; 24], line: &[u8]) -> Ran
-    ensures { λ r. ⌜ r ≡ told (judgeCall judge (loads numbers) (now (line .entry))) loadSize (length (now (line .entry))) ⌝ }
+// What was found there is heard with the board's line.
+fn judged(judge: Judge, input: &[u8], at: usize, found: Found, line: &[u8]) -> Ran
+    requires { ⌜ found ≡ readAs (front (drop at (now input))) ⌝ }
+    ensures { λ r. ⌜ r ≡ judgedBy judge (now (line .entry)) (front (drop at (now (input .entry)))) ⌝ }
 {
     let drive = judge.drive;
-    let before = judge.onlooker;
+    let onlooker = judge.onlooker;
     let shown = lines::read(line);
-    let heard = before.load(numbers, answer_of(shown));
+    let heard = hear(drive, onlooker, answer_of(shown), input, at, found);
     told(
-        entry(
-            judge,
-            drive.load_settings(numbers),
-            heard,
-            shown.good,
-            GOING,
-            line,
-        ),
-        LOAD_SIZE,
+        entry(judge, heard, shown.good, line),
+        heard.size,
         line.len(),
     )
 }
 
-fn cycle(judge: Judge, fields: Cycle, line: &[u8]) -> Ran
-    ensures { λ r. ⌜ r ≡ told (judgeCall judge (cycles fields) (now (line .entry))) cycleSize (length (now (line .entry))) ⌝ }
+// What stands at a place of the records, with this line.
+fn follow(judge: Judge, input: &[u8], at: usize, closed: bool, line: &[u8]) -> Ran
+    ensures { λ r. ⌜ r ≡ follow closed judge (now (line .entry)) (front (drop at (now (input .entry)))) ⌝ }
 {
-    let drive = judge.drive;
-    let before = judge.onlooker;
-    let shown = lines::read(line);
-    let heard = before.cycle(fields, answer_of(shown));
-    told(
-        entry(judge, drive.cycle(fields), heard, shown.good, GOING, line),
-        CYCLE_SIZE,
-        line.len(),
-    )
+    let found = records::read(input, at);
+    let wants = wanted(found, closed);
+    if wants == RECORDS {
+        return wanting(judge, RECORDS);
+    }
+    if wants == NOTHING {
+        return ended(judge, line);
+    }
+    judged(judge, input, at, found, line)
 }
 
-fn tick(judge: Judge, fields: Tick, line: &[u8]) -> Ran
-    ensures { λ r. ⌜ r ≡ told (judgeCall judge (ticks fields) (now (line .entry))) tickSize (length (now (line .entry))) ⌝ }
-{
-    let drive = judge.drive;
-    let before = judge.onlooker;
-    let shown = lines::read(line);
-    let heard = before.tick(fields, answer_of(shown));
-    told(
-        entry(judge, drive.tick(fields), heard, shown.good, GOING, line),
-        TICK_SIZE,
-        line.len(),
-    )
-}
-
-// What stands at a place of the records, with the line at a place of the lines.
+// The same with the line at a place of the lines.
 fn turn(
     judge: Judge,
     input: &[u8],
@@ -240,27 +213,7 @@ fn turn(
         return wanting(judge, LINES);
     }
     let end = from + next.size;
-    let line = &lines[from..end];
-    match records::read(input, at) {
-        Found::End => {
-            if closed {
-                ended(judge, line)
-            } else {
-                wanting(judge, RECORDS)
-            }
-        }
-        Found::Unknown => refusal(judge, line),
-        Found::Short => {
-            if closed {
-                refusal(judge, line)
-            } else {
-                wanting(judge, RECORDS)
-            }
-        }
-        Found::Load => load(judge, settings_at(input, at), line),
-        Found::Cycle(fields) => cycle(judge, fields, line),
-        Found::Tick(fields) => tick(judge, fields, line),
-    }
+    follow(judge, input, at, closed, &lines[from..end])
 }
 
 // One turn more.
@@ -271,13 +224,8 @@ pub(crate) fn onward(ran: Ran, input: &[u8], closed: bool, lines: &[u8], finishe
 {
     let taken = ran.taken;
     let from = ran.lines;
-    let judge = ran.judge;
-    let next = turn(judge, input, taken, closed, lines, from, finished);
-    let judge = next.judge;
-    Ran {
-        judge,
-        taken: taken + next.taken,
-        lines: from + next.lines,
-        wants: next.wants,
-    }
+    let mut next = turn(ran.judge, input, taken, closed, lines, from, finished);
+    next.taken = taken + next.taken;
+    next.lines = from + next.lines;
+    next
 }

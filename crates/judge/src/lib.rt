@@ -1,8 +1,10 @@
 // The judge of a board: he holds the lines that it printed against what the supervisor answers to the same records, and against demand 3.
 mod entries;
 mod fronts;
+mod hearing;
 mod picks;
 pub mod sentences;
+mod words;
 
 use drive::Drive;
 use entries::onward;

@@ -1,20 +1,45 @@
-// What the judge says. Each writer puts its sentence into lent bytes from a place on, and tells the place behind it.
+// What the judge says: sentence after sentence on a page, and the page into the lent bytes.
 use crate::Judge;
 use crate::LEFT_OVER;
 use crate::MISSING;
 use crate::REFUSED;
 use crate::UNREADABLE;
 use crate::picks::one_more;
+use crate::words::CALLS_JUDGED;
+use crate::words::EXIT_BREAKS;
+use crate::words::FOUND;
+use crate::words::GATES_BREAK;
+use crate::words::LINE_DIFFERS;
+use crate::words::LINE_LEFT_OVER;
+use crate::words::LINE_MISSING;
+use crate::words::LINE_UNREADABLE;
+use crate::words::NO_LINE_DIFFERS;
+use crate::words::NONE_BREAKS;
+use crate::words::RECORD_REFUSED;
+use crate::words::RETRIES_BREAK;
+use crate::words::SILENCE;
+use crate::words::WIDTH;
+use crate::words::words;
+use bytes::scan::find;
 use onlooker::past::Rules;
 use report::LINE_LENGTH;
 use text::put;
 use text::put_decimal;
 ghost use mathlib.Core.Path.{_≡_};
+ghost use Prim.Native.Nat.{_<_};
 ghost use Rattle.text.specs.Put.{behind, written};
-ghost use Rattle.judge.specs.Sentences.{gap, placed, about, counting, differing, broken, breaking, ending, said};
+ghost use Rattle.text.specs.Decimal.{decimal};
+ghost use Rattle.judge.specs.Pages.{blankPage, more};
+ghost use Rattle.judge.specs.Sentences.{gap, placed, sentence, about, counting, differing, broken, breaking, ending, said};
 
 // Bytes for all that the judge can say.
 pub const VERDICT_SIZE: usize = 1024;
+
+// What is said so far.
+struct Page {
+    bytes: [u8; VERDICT_SIZE],
+    size: usize,
+}
 
 fn put_gap(lent: &mut [u8], at: usize, number: u64) -> usize
     ensures next { λ r. ⌜ r ≡ behind at (gap number) (now (lent .entry)) ⌝ }
@@ -44,122 +69,120 @@ fn put_placed(lent: &mut [u8], at: usize, number: u64) -> usize
     put_gap(lent, at, number)
 }
 
-fn put_counting(lent: &mut [u8], at: usize, heard: u64) -> usize
-    ensures next { λ r. ⌜ r ≡ behind at (counting heard) (now (lent .entry)) ⌝ }
-    ensures lent { λ _. ⌜ now (lent .exit) ≡ written at (counting heard) (now (lent .entry)) ⌝ }
+fn say_placed(page: Page, number: u64) -> Page
+    ensures { λ r. ⌜ r ≡ more page (placed number) ⌝ }
 {
-    let at = put_decimal(lent, at, heard);
-    put(lent, at, b" calls judged\n")
+    let mut bytes = page.bytes;
+    let size = put_placed(&mut bytes, page.size, number);
+    Page { bytes, size }
 }
 
-fn put_about(lent: &mut [u8], at: usize, number: u64, words: &[u8]) -> usize
-    ensures next { λ r. ⌜ r ≡ behind at (about number (now (words .entry))) (now (lent .entry)) ⌝ }
-    ensures lent { λ _. ⌜ now (lent .exit) ≡ written at (about number (now (words .entry))) (now (lent .entry)) ⌝ }
+fn say_number(page: Page, number: u64) -> Page
+    ensures { λ r. ⌜ r ≡ more page (decimal number) ⌝ }
 {
-    let at = put_placed(lent, at, number);
-    put(lent, at, words)
+    let mut bytes = page.bytes;
+    let size = put_decimal(&mut bytes, page.size, number);
+    Page { bytes, size }
 }
 
-fn put_differing(
-    lent: &mut [u8],
-    at: usize,
+fn say_line(page: Page, line: [u8; LINE_LENGTH]) -> Page
+    ensures { λ r. ⌜ r ≡ more page line ⌝ }
+{
+    let mut bytes = page.bytes;
+    let size = put(&mut bytes, page.size, &line);
+    Page { bytes, size }
+}
+
+// The words of a row, up to their bar.
+fn say(page: Page, row: u8) -> Page
+    requires { ⌜ row < 13 ⌝ }
+    ensures { λ r. ⌜ r ≡ more page (sentence row) ⌝ }
+{
+    let words = words(row);
+    let end = find(&words, 0, WIDTH, b'|');
+    let mut bytes = page.bytes;
+    let size = put(&mut bytes, page.size, &words[..end]);
+    Page { bytes, size }
+}
+
+fn say_about(page: Page, number: u64, row: u8) -> Page
+    requires { ⌜ row < 13 ⌝ }
+    ensures { λ r. ⌜ r ≡ more page (about number (sentence row)) ⌝ }
+{
+    say(say_placed(page, number), row)
+}
+
+fn say_counting(heard: u64) -> Page
+    ensures { λ r. ⌜ r ≡ more blankPage (counting heard) ⌝ }
+{
+    let bytes = [0u8; VERDICT_SIZE];
+    say(say_number(Page { bytes, size: 0 }, heard), CALLS_JUDGED)
+}
+
+fn say_differing(
+    page: Page,
     number: u64,
     expected: [u8; LINE_LENGTH],
     found: [u8; LINE_LENGTH],
-) -> usize
-    ensures next { λ r. ⌜ r ≡ behind at (differing number expected found) (now (lent .entry)) ⌝ }
-    ensures lent { λ _. ⌜ now (lent .exit) ≡ written at (differing number expected found) (now (lent .entry)) ⌝ }
+) -> Page
+    ensures { λ r. ⌜ r ≡ more page (differing number expected found) ⌝ }
 {
     if number == 0 {
-        return put(
-            lent,
-            at,
-            b"no line of these differs from what the supervisor answers\n",
-        );
+        return say(page, NO_LINE_DIFFERS);
     }
-    let at = put_about(
-        lent,
-        at,
-        number,
-        b"the line differs from what the supervisor answers\n  expected ",
-    );
-    let at = put(lent, at, &expected);
-    let at = put(lent, at, b"  found    ");
-    put(lent, at, &found)
+    let page = say_line(say_about(page, number, LINE_DIFFERS), expected);
+    say_line(say(page, FOUND), found)
 }
 
-fn put_broken(lent: &mut [u8], at: usize, holds: bool, number: u64, words: &[u8]) -> usize
-    ensures next { λ r. ⌜ r ≡ behind at (broken holds number (now (words .entry))) (now (lent .entry)) ⌝ }
-    ensures lent { λ _. ⌜ now (lent .exit) ≡ written at (broken holds number (now (words .entry))) (now (lent .entry)) ⌝ }
+fn say_broken(page: Page, holds: bool, number: u64, row: u8) -> Page
+    requires { ⌜ row < 13 ⌝ }
+    ensures { λ r. ⌜ r ≡ more page (broken holds number (sentence row)) ⌝ }
 {
     if holds {
-        return put(lent, at, b"");
+        return say(page, SILENCE);
     }
-    put_about(lent, at, number, words)
+    say_about(page, number, row)
 }
 
-fn put_breaking(lent: &mut [u8], at: usize, number: u64, rules: Rules) -> usize
-    ensures next { λ r. ⌜ r ≡ behind at (breaking number rules) (now (lent .entry)) ⌝ }
-    ensures lent { λ _. ⌜ now (lent .exit) ≡ written at (breaking number rules) (now (lent .entry)) ⌝ }
+fn say_breaking(page: Page, number: u64, rules: Rules) -> Page
+    ensures { λ r. ⌜ r ≡ more page (breaking number rules) ⌝ }
 {
     if number == 0 {
-        return put(lent, at, b"none of these breaks demand 3\n");
+        return say(page, NONE_BREAKS);
     }
-    let at = put_broken(
-        lent,
-        at,
-        rules.gates,
-        number,
-        b"breaks demand 3, gates: they charge or drive, and a live fault stands or no permitted start was taken\n",
-    );
-    let at = put_broken(
-        lent,
-        at,
-        rules.exit,
-        number,
-        b"breaks demand 3, exit: FAULT was left with a live cause, without a trip, or neither by a clear nor by a timed retry\n",
-    );
-    put_broken(
-        lent,
-        at,
-        rules.retries,
-        number,
-        b"breaks demand 3, retries: more timed retries than the loaded limit\n",
-    )
+    let page = say_broken(page, rules.gates, number, GATES_BREAK);
+    let page = say_broken(page, rules.exit, number, EXIT_BREAKS);
+    say_broken(page, rules.retries, number, RETRIES_BREAK)
 }
 
-fn put_ending(lent: &mut [u8], at: usize, end: u8, number: u64) -> usize
-    ensures next { λ r. ⌜ r ≡ behind at (ending end number) (now (lent .entry)) ⌝ }
-    ensures lent { λ _. ⌜ now (lent .exit) ≡ written at (ending end number) (now (lent .entry)) ⌝ }
+fn say_ending(page: Page, end: u8, number: u64) -> Page
+    ensures { λ r. ⌜ r ≡ more page (ending end number) ⌝ }
 {
     if end == MISSING {
-        return put_about(lent, at, number, b"has no line: the lines end before it\n");
+        return say_about(page, number, LINE_MISSING);
     }
     if end == LEFT_OVER {
-        return put_about(
-            lent,
-            at,
-            number,
-            b"is not there: the records end, and lines are left over\n",
-        );
+        return say_about(page, number, LINE_LEFT_OVER);
     }
     if end == UNREADABLE {
-        return put_about(
-            lent,
-            at,
-            number,
-            b"has a line that cannot be read: nothing behind it is judged\n",
-        );
+        return say_about(page, number, LINE_UNREADABLE);
     }
     if end == REFUSED {
-        return put_about(
-            lent,
-            at,
-            number,
-            b"is unknown or cut short: the run ends there\n",
-        );
+        return say_about(page, number, RECORD_REFUSED);
     }
-    put(lent, at, b"")
+    say(page, SILENCE)
+}
+
+fn say_all(judge: Judge) -> Page
+    ensures { λ r. ⌜ r ≡ more blankPage (said judge) ⌝ }
+{
+    let expected = judge.expected;
+    let found = judge.found;
+    let heard = judge.onlooker.past.heard;
+    let page = say_counting(heard);
+    let page = say_differing(page, judge.differs, expected, found);
+    let page = say_breaking(page, judge.breaks, judge.rules);
+    say_ending(page, judge.end, one_more(heard))
 }
 
 // All that the judge has to say, from the first of the lent bytes on.
@@ -167,12 +190,8 @@ pub fn verdict(judge: Judge, lent: &mut [u8]) -> usize
     ensures next { λ r. ⌜ r ≡ behind 0 (said judge) (now (lent .entry)) ⌝ }
     ensures lent { λ _. ⌜ now (lent .exit) ≡ written 0 (said judge) (now (lent .entry)) ⌝ }
 {
-    let onlooker = judge.onlooker;
-    let expected = judge.expected;
-    let found = judge.found;
-    let heard = onlooker.past.heard;
-    let at = put_counting(lent, 0, heard);
-    let at = put_differing(lent, at, judge.differs, expected, found);
-    let at = put_breaking(lent, at, judge.breaks, judge.rules);
-    put_ending(lent, at, judge.end, one_more(heard))
+    let page = say_all(judge);
+    let bytes = page.bytes;
+    let size = page.size;
+    put(lent, 0, &bytes[..size])
 }

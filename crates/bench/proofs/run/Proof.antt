@@ -7,6 +7,7 @@ use lib.ListN.{length}
 use mir.Syntax.{w64}
 use mir.Val.{Fits}
 use borrow.Author.Needs.{needs}
+use borrow.Author.Tests.{eqb-true, eqb-false}
 use Rattle.drive.specs.declared.Drive.{Drive}
 use Rattle.streams.specs.Run.{Outcome}
 use Rattle.streams.proofs.LoopOfRun.{Told, Ongoing, at-start, length-output, Stepped, stepped}
@@ -40,29 +41,36 @@ all-told : {o : Outcome Drive} {d : Drive} {taken written : ℕ} {ended : Bool}
     → Told o d taken written ended → ran d taken written ended ≡ ranOf o
 all-told t = rw (t .state-is, t .taken-is, t .written-is, t .ended-is)
 
-room : (c : tie.After-drive Inv-loop μ-loop) → c .before .loop .ran .written ≤ length (c .before .loop .output)
-room c = omega (arith, length-output lawful (c .before .loop .inv), c .before .loop .inv .room)
+room : (c : tie.At-loop Inv-loop μ-loop) → c .loop .ran .written ≤ length (c .loop .output)
+room c = omega (arith, length-output lawful (c .loop .inv), c .loop .inv .room)
 
 after : (c : tie.After-step Inv-loop μ-loop)
-    → Stepped lawful (c .before .before .before .loop .inv) (c .step .result .drive) (c .step .result .taken)
+    → Stepped lawful (c .before .before .loop .inv) (c .step .result .drive) (c .step .result .taken)
     (c .step .result .written) (c .step .result .ended) (c .step .last .1 .1 .1 .1 .0)
-after c = stepped lawful (c .before .before .before .loop .inv) (told (c .step .ensures .0)) (c .step .ensures .1)
+after c = stepped lawful (c .before .before .loop .inv) (told (c .step .ensures .0)) (c .step .ensures .1)
 
 -- what is taken and what is written are within the buffers, whose lengths a usize holds
 sums : (c : tie.After-step Inv-loop μ-loop)
-    → let ran = c .before .before .before .loop .ran in
+    → let ran = c .before .before .loop .ran in
     Fits w64 (ran .taken + c .step .result .taken) × Fits w64 (ran .written + c .step .result .written)
 sums c =
-    let good = c .before .before .before .before .before .before .before .good in
+    let good = c .before .before .before .before .before .before .good in
     (omega (arith, after c .taken-within, good), omega (arith, after c .filled-within, good))
 
 returns : tie.Need-returns Inv-loop μ-loop
 returns c =
-    let step = c .before .before .before .before .before .before .before in
-    let start = step .before .before .before .before in
-    let last = c .if1 .taken in
+    let step = c .before .before .before .before .before .before in
+    let start = step .before .before .before in
+    let last = eqb-true (step .step .result .taken) 0 (c .if1 .taken) in
     rw (← ap (λ (r : Ran). r .drive) (start .resting .ensures))
     (all-told (after step .answer last), (after step .leaves last, (after step .taken-within, after step .filled-within)))
+
+-- what goes on has taken something
+abbrev step-of : tie.Else1 Inv-loop μ-loop → tie.After-step Inv-loop μ-loop
+step-of c = c .before .before .before .before .before .before
+
+some : (c : tie.Else1 Inv-loop μ-loop) → step-of c .step .result .taken ≡ 0 → ⊥
+some c = eqb-false (step-of c .step .result .taken) 0 (c .if1 .left)
 
 pub run-spec : {M : Type 1} → statement M
 run-spec =
@@ -73,7 +81,7 @@ run-spec =
     (search needs) (search needs)
     (λ c. sums (c .before .before .before .before) .0)
     (λ c. sums (c .before .before .before .before .before) .1)
-    (λ c. after (c .before .before .before .before .before .before .before) .length-kept)
+    (λ c. after (c .before .before .before .before .before .before) .length-kept)
     returns
-    (λ c. omega (arith, after (c .before .before .before .before .before .before .before) .taken-within, c .if1 .left))
-    (λ c. after (c .before .before .before .before .before .before .before) .again (c .if1 .left)))
+    (λ c. omega (arith, after (step-of c) .taken-within, some c))
+    (λ c. after (step-of c) .again (some c)))

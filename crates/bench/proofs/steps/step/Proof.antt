@@ -10,9 +10,7 @@ use borrow.Author.Needs.{needs}
 use Rattle.drive.specs.AnyCall.{cycles, ticks, reply}
 use Rattle.drive.specs.declared.Drive.{Drive}
 use Rattle.drive.specs.declared.answer.Reply.{Reply}
-use Rattle.records.proofs.Numbers.{length-numbers}
 use Rattle.streams.specs.Run.{Front, whole, Outcome, rest, lined, refused, follow, runs, outputAfter}
-use Rattle.streams.proofs.Parts.{tail}
 use Rattle.streams.proofs.ByFront.{at-tight, one-front, one-whole}
 use Rattle.bench.specs.Table.{Record, as-in-shiftline, callOf, sizeOf, front}
 use Rattle.bench.specs.Line.{motorLine}
@@ -80,12 +78,10 @@ abbrev told : (c : tie.After-known-told) → tie.After-find
 told c = c .before .before .before
 
 -- what the load is answered
-same-load : (c : tie.After-load)
-    → let known = c .before .before .before .before in
-    c .load .result ≡ reply (start (told known) .args .drive) (callOf (loaded (told known) (known .before .first .given .1) .it))
-same-load c =
-    let known = c .before .before .before .before in
-    c .load .ensures ∙ rw (c .before .before .numbers-of .ensures, tail, loaded (told known) (known .before .first .given .1) .asks)
+same-load : (c : tie.After-loaded)
+    → let known = c .before in
+    c .loaded .result ≡ reply (start (told known) .args .drive) (callOf (loaded (told known) (known .before .first .given .1) .it))
+same-load c = let known = c .before in c .loaded .ensures ∙ rw (loaded (told known) (known .before .first .given .1) .asks)
 
 returns-2 : tie.Need-returns-2
 returns-2 c =
@@ -111,11 +107,11 @@ returns-5 c =
 
 returns-6 : tie.Need-returns-6
 returns-6 c =
-    let load = c .before .before .before .before in
-    let known = load .before .before .before .before in
+    let size = c .before .before .before .before in
+    let known = size .before .before in
     let means-load = loaded (told known) (known .before .first .given .1) in
-    replied (told known) (means-load .it) (means-load .is) (same-load load)
-    (rw (sym (means-load .size)) at (c .before .before .answering .ensures))
+    replied (told known) (means-load .it) (means-load .is) (same-load (size .before))
+    (rw (size .load-size .ensures, sym (means-load .size)) at (c .before .before .answering .ensures))
 
 returns-7 : tie.Need-returns-7
 returns-7 c =
@@ -138,14 +134,8 @@ step-spec =
     tie.close (tie.spec (search needs)
     (λ c. met _ (at-tight benchline 0 _ _ _ _ (c .before .if1 .taken)) (c .resting .ensures, refl))
     (search needs) (search needs) (search needs) (search needs) (search needs) (search needs) (search needs)
-    (search needs) (search needs) (search needs) (search needs)
-    (λ c. omega (arith, fits (told c) (c .before .first .given .1)))
-    (λ c. omega (arith, fits (told c) (c .before .first .given .1)))
-    (search needs)
-    (λ c κs. (search needs, simp tail (loaded (told (c .before)) (c .before .before .first .given .1) .inside)))
-    (search needs)
-    (λ c. sym (ap length (c .before .numbers-of .ensures) ∙ length-numbers _ _ _))
-    (search needs) (search needs) (search needs) (search needs) (search needs) (search needs) (search needs)
-    (search needs) (search needs) (search needs)
+    (search needs) (search needs)
+    (λ c κs. let is = c .before .first .given .1 in (fits (told c) is, loaded (told c) is .inside))
+    (search needs) (search needs) (search needs) (search needs) (search needs) (search needs) (search needs) (search needs)
     returns-2 (search needs) returns-3 (search needs) returns-4 returns-5 (search needs) returns-6 (search needs)
     returns-7 (search needs) returns-8)

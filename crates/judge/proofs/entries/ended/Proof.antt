@@ -5,5 +5,4 @@ use Rattle.judge.proofs.entries.ended.Tie as tie
 
 pub ended-spec : {M : Type 1} → statement M
 ended-spec =
-    tie.close (tie.spec (search needs) (search needs)
-    (λ c. rw (c .told .ensures, c .before .before .before .before .before .before .pick-u8 .ensures)))
+    tie.close (tie.spec (search needs) (search needs) (λ c. rw (c .told .ensures, c .before .pick-u8 .ensures)))

@@ -12,11 +12,11 @@ use Rattle.judge.proofs.entries.onward.Statement.{statement}
 use Rattle.judge.proofs.entries.onward.Tie as tie
 
 within : (c : tie.After-turn)
-    → let args = c .before .before .before .before .args in
+    → let args = c .before .before .before .args in
     (args .ran .taken + c .turn .result .taken ≤ length (now (args .input)))
     × (args .ran .lines + c .turn .result .lines ≤ length (now (args .lines)))
 within c =
-    let start = c .before .before .before .before in
+    let start = c .before .before .before in
     let args = start .args in
     let input = drop (args .ran .taken) (now (args .input)) in
     let lines = drop (args .ran .lines) (now (args .lines)) in
@@ -30,12 +30,12 @@ within c =
 returns : tie.Need-returns
 unfolding onward
 returns c =
-    let turn = c .before .before .before in
+    let turn = c .before .before in
     (rw (turn .turn .ensures), within turn)
 
 pub onward-spec : {M : Type 1} → statement M
 onward-spec =
     tie.close (tie.spec (search needs)
-    (λ c. omega (arith, within (c .before .before) .0, c .before .before .before .before .before .before .good))
-    (λ c. omega (arith, within (c .before .before .before) .1, c .before .before .before .before .before .before .before .good))
+    (λ c. omega (arith, within (c .before) .0, c .before .before .before .before .good))
+    (λ c. omega (arith, within (c .before .before) .1, c .before .before .before .before .before .good))
     returns)

@@ -1,0 +1,13 @@
+-- `say_placed` puts it behind what is said.
+use borrow.Author.Needs.{needs}
+use Rattle.judge.specs.Pages.{more}
+use Rattle.judge.proofs.sentences.say_placed.Statement.{statement}
+use Rattle.judge.proofs.sentences.say_placed.Tie as tie
+
+returns : tie.Need-returns
+unfolding more
+returns c = let put = c .before .put-placed .ensures in rw (put .0, put .1)
+
+pub say-placed-spec : {M : Type 1} → statement M
+say-placed-spec =
+    tie.close (tie.spec (λ c. search needs) (search needs) returns)

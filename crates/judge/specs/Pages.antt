@@ -1,0 +1,22 @@
+-- The page on which the code puts sentence after sentence, and its table of their words.
+use Prim.Native.Nat.{ℕ}
+use Prim.Native.Char.{code}
+use mathlib.Core.List.{List, [], _∷_, _++_}
+use lib.ListN.{take, replicate}
+use Rattle.text.specs.Put.{behind, written}
+use Rattle.judge.specs.declared.sentences.Page.{Page}
+
+-- room for all that the judge can say
+abbrev pub pageSize : ℕ
+pageSize = 1024
+
+abbrev pub blankPage : Page
+blankPage = record { bytes = replicate pageSize 0; size = 0 }
+
+-- a page with more behind what is said; what does not fit is cut off
+unfoldable pub more : Page → List ℕ → Page
+more page words = record { bytes = written (page .size) words (page .bytes); size = behind (page .size) words (page .bytes) }
+
+-- words as a row of the table: a bar behind them, and blanks up to its width
+abbrev pub barred : List ℕ → List ℕ
+barred words = take 120 (words ++ (code "|" ∷ []) ++ replicate 120 (code " "))
