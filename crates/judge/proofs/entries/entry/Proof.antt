@@ -42,8 +42,8 @@ returns c =
     let lined = c .before .before .before .before in
     let breaks = lined .before .before .before .before in
     let kept = breaks .before .before .before in
-    let args = kept .before .before .before .before .before .before .before .before .before .args in
-    made (args .judge) (args .heard .reply) (args .heard .onlooker) (args .good) (args .heard .end) _
+    let args = kept .before .before .before .before .before .before .before .args in
+    made (args .judge) (args .reply) (args .heard) (args .good) (args .end) _
     (kept .before .line-for .ensures)
     (kept .line-kept .ensures)
     (breaks .before .before .one-more .ensures)
