@@ -31,7 +31,7 @@ ghost use Rattle.text.specs.Put.{behind, written};
 ghost use Rattle.judge.specs.Pages.{blankPage, more};
 ghost use Rattle.judge.specs.Sentences.{gap, placed, sentence, about, counting, differing, broken, breaking, ending, said};
 
-// Bytes for all that the judge can say.
+// Bytes for all that the judge can say, whatever it is: `said-within` of proofs/Pages.antt.
 pub const VERDICT_SIZE: usize = 1024;
 
 // What is said so far.

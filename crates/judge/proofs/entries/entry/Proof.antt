@@ -16,8 +16,8 @@ use Rattle.judge.proofs.entries.entry.Tie as tie
 
 -- The fields of an entry make it. Over variables: in the terms of the code each step of this costs much more.
 module _ (j : Judge) (said : Reply) (heard : Onlooker) (good : Bool) (end : ℕ) (line : List ℕ) where
-  made : {expected found : List ℕ} {number : ℕ} {differs breaks : Bool} {stopped : ℕ} {o : Onlooker} {d : ℕ} {e f : List ℕ} {b : ℕ}
-      {r : Rules} {n : ℕ}
+  made : {expected found : List ℕ} {number : ℕ} {differs breaks : Bool} {stopped : ℕ} {o : Onlooker} {d : ℕ}
+      {e f : List ℕ} {b : ℕ} {r : Rules} {n : ℕ}
       → expected ≡ lineFor (said .answer)
       → found ≡ lineKept line
       → number ≡ numberOf j
