@@ -34,7 +34,8 @@ unfolding more behind
 size-within page words = omega (arith, length-written (page .size) words (page .bytes))
 
 -- a page has all of a line
-pub page-has : (answer : Answer) → take (more blankPage (motorLine answer) .size) (more blankPage (motorLine answer) .bytes) ≡ motorLine answer
+pub page-has : (answer : Answer)
+    → take (more blankPage (motorLine answer) .size) (more blankPage (motorLine answer) .bytes) ≡ motorLine answer
 unfolding more
 page-has answer =
     let line = motorLine answer in

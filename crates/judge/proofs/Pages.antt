@@ -10,7 +10,7 @@ use lib.Dec.{eqb, ltb}
 use lib.ListN.{length, getD, take, drop, length-append}
 use lib.Seq.{take-at}
 use Rattle.bytes.specs.Bytes.{indexOf, slice}
-use Rattle.text.specs.Put.{behind}
+use Rattle.text.specs.Put.{behind, written}
 use Rattle.text.proofs.Chains.{length-written, behind-behind, written-written, behind-front, written-front}
 use Rattle.text.proofs.Decimals.{at-most-twenty}
 use Rattle.numbers.proofs.Tests.{by-test}
@@ -22,6 +22,13 @@ use Rattle.judge.specs.Sentences.{rows, sentence, gap, placed, about, co
 use Rattle.judge.specs.declared.Judge.{Judge}
 use Rattle.judge.specs.declared.sentences.Page.{Page}
 use Rattle.onlooker.specs.declared.past.Rules.{Rules}
+
+-- a writer that begins behind what is said puts it on the page
+pub put-on : (page : Page) (words : List ℕ) {size : ℕ} {bytes : List ℕ} → size ≡ behind (page .size) words (page .bytes)
+    → bytes ≡ written (page .size) words (page .bytes)
+    → record { bytes = bytes; size = size } ≡ more page words
+unfolding more
+put-on page words at out = rw (at, out)
 
 -- one piece after another is one piece
 pub more-more : (page : Page) (a b : List ℕ) → more (more page a) b ≡ more page (a ++ b)

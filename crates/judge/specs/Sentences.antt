@@ -54,8 +54,8 @@ refusedWords = text "is unknown or cut short: the run ends there\n"
 -- all of them by their rows in the code's table; the first says nothing
 abbrev pub rows : List (List ℕ)
 rows =
-    [] ∷ callsWords ∷ sameWords ∷ differsWords ∷ foundWords ∷ keptWords ∷ gatesWords ∷ exitWords ∷ retriesWords ∷ missingWords ∷ leftOverWords
-    ∷ unreadableWords ∷ refusedWords ∷ []
+    [] ∷ callsWords ∷ sameWords ∷ differsWords ∷ foundWords ∷ keptWords ∷ gatesWords ∷ exitWords ∷ retriesWords
+    ∷ missingWords ∷ leftOverWords ∷ unreadableWords ∷ refusedWords ∷ []
 
 abbrev pub sentence : ℕ → List ℕ
 sentence row = getD rows row []

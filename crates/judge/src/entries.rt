@@ -11,7 +11,6 @@ use crate::Ran;
 use crate::TURN;
 use crate::UNREADABLE;
 use crate::fronts::next_line;
-use crate::hearing::Heard;
 use crate::hearing::hear;
 use crate::picks::one_more;
 use crate::picks::pick_line;
@@ -21,8 +20,10 @@ use crate::picks::pick_u8;
 use crate::picks::pick_u64;
 use check::same;
 use drive::answer::Answer;
+use drive::answer::Reply;
 use drive::offsets::Pair;
 use lines::Shown;
+use onlooker::Onlooker;
 use onlooker::past::Rules;
 use records::Found;
 use report::LINE_LENGTH;
@@ -92,13 +93,11 @@ fn breaks_now(before: u64, good: bool, rules: Rules) -> bool
     good & (before == 0) & !kept(rules)
 }
 
-// A record that the supervisor and the onlooker took so.
-fn entry(judge: Judge, heard: Heard, good: bool, line: &[u8]) -> Judge
-    ensures { λ r. ⌜ r ≡ entryWith judge (heard .reply) (heard .onlooker) good (heard .end) (now (line .entry)) ⌝ }
+// A record that the supervisor answers so, heard with the board's own answer so.
+fn entry(judge: Judge, reply: Reply, heard: Onlooker, good: bool, end: u8, line: &[u8]) -> Judge
+    ensures { λ r. ⌜ r ≡ entryWith judge reply heard good end (now (line .entry)) ⌝ }
 {
-    let reply = heard.reply;
     let drive = reply.drive;
-    let after = heard.onlooker;
     let before = judge.onlooker;
     let first_expected = judge.expected;
     let first_found = judge.found;
@@ -106,17 +105,17 @@ fn entry(judge: Judge, heard: Heard, good: bool, line: &[u8]) -> Judge
     let found = line_kept(line);
     let number = one_more(before.past.heard);
     let differs = differs_now(judge.differs, good, expected, line);
-    let breaks = breaks_now(judge.breaks, good, after.rules);
+    let breaks = breaks_now(judge.breaks, good, heard.rules);
     let stopped = pick_u8(line.len() == 0, MISSING, UNREADABLE);
     Judge {
         drive,
-        onlooker: pick_onlooker(good, after, before),
+        onlooker: pick_onlooker(good, heard, before),
         differs: pick_u64(differs, number, judge.differs),
         expected: pick_line(differs, expected, first_expected),
         found: pick_line(differs, found, first_found),
         breaks: pick_u64(breaks, number, judge.breaks),
-        rules: pick_rules(breaks, after.rules, judge.rules),
-        end: pick_u8(good, heard.end, stopped),
+        rules: pick_rules(breaks, heard.rules, judge.rules),
+        end: pick_u8(good, end, stopped),
     }
 }
 
@@ -174,7 +173,14 @@ fn judged(judge: Judge, input: &[u8], at: usize, found: Found, line: &[u8]) -> R
     let shown = lines::read(line);
     let heard = hear(drive, onlooker, answer_of(shown), input, at, found);
     told(
-        entry(judge, heard, shown.good, line),
+        entry(
+            judge,
+            heard.reply,
+            heard.onlooker,
+            shown.good,
+            heard.end,
+            line,
+        ),
         heard.size,
         line.len(),
     )

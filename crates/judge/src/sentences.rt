@@ -28,11 +28,10 @@ use text::put_decimal;
 ghost use mathlib.Core.Path.{_≡_};
 ghost use Prim.Native.Nat.{_<_};
 ghost use Rattle.text.specs.Put.{behind, written};
-ghost use Rattle.text.specs.Decimal.{decimal};
 ghost use Rattle.judge.specs.Pages.{blankPage, more};
 ghost use Rattle.judge.specs.Sentences.{gap, placed, sentence, about, counting, differing, broken, breaking, ending, said};
 
-// Bytes for all that the judge can say.
+// Bytes for all that the judge can say, whatever it is: `said-within` of proofs/Pages.antt.
 pub const VERDICT_SIZE: usize = 1024;
 
 // What is said so far.
@@ -69,22 +68,6 @@ fn put_placed(lent: &mut [u8], at: usize, number: u64) -> usize
     put_gap(lent, at, number)
 }
 
-fn say_placed(page: Page, number: u64) -> Page
-    ensures { λ r. ⌜ r ≡ more page (placed number) ⌝ }
-{
-    let mut bytes = page.bytes;
-    let size = put_placed(&mut bytes, page.size, number);
-    Page { bytes, size }
-}
-
-fn say_number(page: Page, number: u64) -> Page
-    ensures { λ r. ⌜ r ≡ more page (decimal number) ⌝ }
-{
-    let mut bytes = page.bytes;
-    let size = put_decimal(&mut bytes, page.size, number);
-    Page { bytes, size }
-}
-
 fn say_line(page: Page, line: [u8; LINE_LENGTH]) -> Page
     ensures { λ r. ⌜ r ≡ more page line ⌝ }
 {
@@ -109,14 +92,17 @@ fn say_about(page: Page, number: u64, row: u8) -> Page
     requires { ⌜ row < 13 ⌝ }
     ensures { λ r. ⌜ r ≡ more page (about number (sentence row)) ⌝ }
 {
-    say(say_placed(page, number), row)
+    let mut bytes = page.bytes;
+    let size = put_placed(&mut bytes, page.size, number);
+    say(Page { bytes, size }, row)
 }
 
 fn say_counting(heard: u64) -> Page
     ensures { λ r. ⌜ r ≡ more blankPage (counting heard) ⌝ }
 {
-    let bytes = [0u8; VERDICT_SIZE];
-    say(say_number(Page { bytes, size: 0 }, heard), CALLS_JUDGED)
+    let mut bytes = [0u8; VERDICT_SIZE];
+    let size = put_decimal(&mut bytes, 0, heard);
+    say(Page { bytes, size }, CALLS_JUDGED)
 }
 
 fn say_differing(

@@ -6,6 +6,7 @@ ghost use Rattle.judge.specs.Pages.{barred};
 
 pub(crate) const WIDTH: usize = 120;
 
+// The rows of the table. The first says nothing.
 pub(crate) const SILENCE: u8 = 0;
 
 pub(crate) const CALLS_JUDGED: u8 = 1;

@@ -21,7 +21,8 @@ module _ (c : tie.After-page-of) where
 
   within : c .page-of .result .size ≤ length (c .page-of .result .bytes)
   within =
-      subst (λ (p : Page). p .size ≤ length (p .bytes)) (sym (c .page-of .ensures)) (size-within blankPage (motorLine (start .args .answer)))
+      subst (λ (p : Page). p .size ≤ length (p .bytes)) (sym (c .page-of .ensures))
+      (size-within blankPage (motorLine (start .args .answer)))
 
 returns : tie.Need-returns
 returns c =

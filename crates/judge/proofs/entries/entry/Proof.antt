@@ -16,8 +16,8 @@ use Rattle.judge.proofs.entries.entry.Tie as tie
 
 -- The fields of an entry make it. Over variables: in the terms of the code each step of this costs much more.
 module _ (j : Judge) (said : Reply) (heard : Onlooker) (good : Bool) (end : ℕ) (line : List ℕ) where
-  made : {expected found : List ℕ} {number : ℕ} {differs breaks : Bool} {stopped : ℕ} {o : Onlooker} {d : ℕ} {e f : List ℕ} {b : ℕ}
-      {r : Rules} {n : ℕ}
+  made : {expected found : List ℕ} {number : ℕ} {differs breaks : Bool} {stopped : ℕ} {o : Onlooker} {d : ℕ}
+      {e f : List ℕ} {b : ℕ} {r : Rules} {n : ℕ}
       → expected ≡ lineFor (said .answer)
       → found ≡ lineKept line
       → number ≡ numberOf j
@@ -42,8 +42,8 @@ returns c =
     let lined = c .before .before .before .before in
     let breaks = lined .before .before .before .before in
     let kept = breaks .before .before .before in
-    let args = kept .before .before .before .before .before .before .before .before .before .args in
-    made (args .judge) (args .heard .reply) (args .heard .onlooker) (args .good) (args .heard .end) _
+    let args = kept .before .before .before .before .before .before .before .args in
+    made (args .judge) (args .reply) (args .heard) (args .good) (args .end) _
     (kept .before .line-for .ensures)
     (kept .line-kept .ensures)
     (breaks .before .before .one-more .ensures)

@@ -1,4 +1,4 @@
--- `say_line` puts it behind what is said.
+-- `say_line` puts the line behind what is said.
 use borrow.Author.Needs.{needs}
 use Rattle.judge.specs.Pages.{more}
 use Rattle.judge.proofs.sentences.say_line.Statement.{statement}
