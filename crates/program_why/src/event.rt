@@ -4,20 +4,12 @@ use onlooker::past::Past;
 use onlooker::past::Seen;
 use settings::CONTROL_MODE;
 
-// The call: L, C or T, and number and place of its answer.
-pub(crate) struct Told {
-    pub(crate) letter: u8,
-    pub(crate) number: u8,
-    pub(crate) place: u8,
-}
-
-// The record's number and what was told of it; the states that the answers showed before it and after it, and whether the one before ran;
+// The record's number; the states that the answers showed before it and after it, and whether the one before ran;
 // the note; mode 1; the records of the low and of the retry that permit a start, whether one was permitted, the retries counted; the last
 // low and the last trip before it; the record that lit the live word, and whether dead samples lit bit 15; live word and gates, before
 // and after.
 pub(crate) struct Event {
     pub(crate) nth: u64,
-    pub(crate) told: Told,
     pub(crate) from: u8,
     pub(crate) to: u8,
     pub(crate) ran: bool,
@@ -41,7 +33,7 @@ fn permits(past: Past) -> bool {
     past.loaded & ((past.low != 0) | (past.retry != 0))
 }
 
-pub(crate) fn happened(before: Onlooker, after: Onlooker, told: Told) -> Event {
+pub(crate) fn happened(before: Onlooker, after: Onlooker) -> Event {
     let remembered = after.memory;
     let numbers = remembered.numbers;
     let past = before.past;
@@ -49,7 +41,6 @@ pub(crate) fn happened(before: Onlooker, after: Onlooker, told: Told) -> Event {
     let seen = after.seen;
     Event {
         nth: after.past.heard,
-        told,
         from: before.memory.shown,
         to: remembered.shown,
         ran: before.seen.running,

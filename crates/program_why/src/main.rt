@@ -3,9 +3,11 @@
 mod event;
 mod happened;
 mod hear;
+mod sentence;
 mod shown;
 mod watch;
 mod words;
+mod writer;
 
 use drive::Drive;
 use onlooker::Onlooker;

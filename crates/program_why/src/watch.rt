@@ -1,21 +1,24 @@
 // One record: the call that it asks for, the supervisor's answer, what the onlooker makes of both, and its sentences.
 use crate::event::Event;
-use crate::event::Told;
 use crate::event::happened;
-use crate::happened::put_head;
-use crate::happened::put_left;
-use crate::happened::put_loaded;
-use crate::happened::put_refused;
-use crate::happened::put_start;
-use crate::happened::put_stop;
+use crate::happened::left;
+use crate::happened::loaded;
+use crate::happened::refused;
+use crate::happened::start;
+use crate::happened::stop;
+use crate::hear::Heard;
 use crate::hear::hear_cycle;
 use crate::hear::hear_load;
 use crate::hear::hear_tick;
-use crate::shown::put_gates;
-use crate::shown::put_live;
-use crate::shown::put_trip;
+use crate::sentence::plain;
+use crate::sentence::put_sentence;
+use crate::shown::gates;
+use crate::shown::live;
+use crate::shown::trip;
+use crate::words::NO_RECORD;
 use drive::Drive;
-use drive::answer::Answer;
+use fields::Cycle;
+use fields::Tick;
 use onlooker::Onlooker;
 use records::CYCLE_SIZE;
 use records::Found;
@@ -23,7 +26,7 @@ use records::LOAD_SIZE;
 use records::TICK_SIZE;
 use records::read;
 use records::settings_at;
-use text::put;
+use settings::SETTING_COUNT;
 
 // The supervisor and the onlooker, how many bytes the record had, where the next sentence goes, and whether the run has ended.
 pub(crate) struct Watch {
@@ -35,17 +38,16 @@ pub(crate) struct Watch {
 }
 
 fn put_happened(output: &mut [u8], at: usize, e: Event) -> usize {
-    let at = put_refused(output, at, e);
-    let at = put_loaded(output, at, e);
-    let at = put_left(output, at, e);
-    let at = put_start(output, at, e);
-    put_stop(output, at, e)
+    let at = put_sentence(output, at, e.nth, loaded(e));
+    let at = put_sentence(output, at, e.nth, left(e));
+    let at = put_sentence(output, at, e.nth, start(e));
+    put_sentence(output, at, e.nth, stop(e))
 }
 
 fn put_shown(output: &mut [u8], at: usize, e: Event) -> usize {
-    let at = put_trip(output, at, e);
-    let at = put_live(output, at, e);
-    put_gates(output, at, e)
+    let at = put_sentence(output, at, e.nth, trip(e));
+    let at = put_sentence(output, at, e.nth, live(e));
+    put_sentence(output, at, e.nth, gates(e))
 }
 
 fn put_sentences(output: &mut [u8], at: usize, e: Event) -> usize {
@@ -53,31 +55,82 @@ fn put_sentences(output: &mut [u8], at: usize, e: Event) -> usize {
     put_shown(output, next, e)
 }
 
-fn tell(
-    output: &mut [u8],
-    at: usize,
-    before: Onlooker,
-    after: Onlooker,
-    letter: u8,
-    answer: Answer,
-) -> usize {
-    let told = Told {
-        letter,
-        number: answer.number,
-        place: answer.place,
-    };
-    put_sentences(output, at, happened(before, after, told))
+// What is said of a call that was heard, and the watch after it.
+fn told(watch: Watch, heard: Heard, letter: u8, taken: usize, output: &mut [u8]) -> Watch {
+    let before = watch.onlooker;
+    let drive = heard.drive;
+    let onlooker = heard.onlooker;
+    let answer = heard.answer;
+    let e = happened(before, onlooker);
+    let next = put_sentence(
+        output,
+        watch.next,
+        e.nth,
+        refused(letter, answer.number, answer.place),
+    );
+    Watch {
+        drive,
+        onlooker,
+        taken,
+        next: put_sentences(output, next, e),
+        ended: false,
+    }
 }
 
-// A record that is none ends the run.
-fn put_end(output: &mut [u8], at: usize, heard: u64) -> usize {
-    let nth = if heard < u64::MAX { heard + 1 } else { heard };
-    let at = put_head(output, at, nth);
-    put(
+fn take_load(watch: Watch, numbers: [u16; SETTING_COUNT], output: &mut [u8]) -> Watch {
+    let drive = watch.drive;
+    let before = watch.onlooker;
+    told(
+        watch,
+        hear_load(drive, before, numbers),
+        b'L',
+        LOAD_SIZE,
         output,
-        at,
-        b"refused: number 6, place 0: unknown or short record; the run ends\n",
     )
+}
+
+fn take_cycle(watch: Watch, fields: Cycle, output: &mut [u8]) -> Watch {
+    let drive = watch.drive;
+    let before = watch.onlooker;
+    told(
+        watch,
+        hear_cycle(drive, before, fields),
+        b'C',
+        CYCLE_SIZE,
+        output,
+    )
+}
+
+fn take_tick(watch: Watch, fields: Tick, output: &mut [u8]) -> Watch {
+    let drive = watch.drive;
+    let before = watch.onlooker;
+    told(
+        watch,
+        hear_tick(drive, before, fields),
+        b'T',
+        TICK_SIZE,
+        output,
+    )
+}
+
+fn one_more(count: u64) -> u64 {
+    if count < u64::MAX { count + 1 } else { count }
+}
+
+// Nothing is taken. A record that is none ends the run.
+fn take_none(watch: Watch, ended: bool, output: &mut [u8]) -> Watch {
+    let mut watch = watch;
+    watch.taken = 0;
+    watch.ended = ended;
+    if ended {
+        watch.next = put_sentence(
+            output,
+            watch.next,
+            one_more(watch.onlooker.past.heard),
+            plain(NO_RECORD),
+        );
+    }
+    watch
 }
 
 // One record at most, from a place of the input on; `taken` is 0 where there is none to take.
@@ -88,82 +141,13 @@ pub(crate) fn step(
     closed: bool,
     output: &mut [u8],
 ) -> Watch {
-    let drive = watch.drive;
-    let before = watch.onlooker;
-    let next = watch.next;
     let found = read(input, at);
     match found {
-        Found::End => Watch {
-            drive,
-            onlooker: before,
-            taken: 0,
-            next,
-            ended: false,
-        },
-        Found::Load => {
-            let numbers = settings_at(input, at);
-            let heard = hear_load(drive, before, numbers);
-            let drive = heard.drive;
-            let onlooker = heard.onlooker;
-            let answer = heard.answer;
-            Watch {
-                drive,
-                onlooker,
-                taken: LOAD_SIZE,
-                next: tell(output, next, before, onlooker, b'L', answer),
-                ended: false,
-            }
-        }
-        Found::Cycle(fields) => {
-            let heard = hear_cycle(drive, before, fields);
-            let drive = heard.drive;
-            let onlooker = heard.onlooker;
-            let answer = heard.answer;
-            Watch {
-                drive,
-                onlooker,
-                taken: CYCLE_SIZE,
-                next: tell(output, next, before, onlooker, b'C', answer),
-                ended: false,
-            }
-        }
-        Found::Tick(fields) => {
-            let heard = hear_tick(drive, before, fields);
-            let drive = heard.drive;
-            let onlooker = heard.onlooker;
-            let answer = heard.answer;
-            Watch {
-                drive,
-                onlooker,
-                taken: TICK_SIZE,
-                next: tell(output, next, before, onlooker, b'T', answer),
-                ended: false,
-            }
-        }
-        Found::Short => {
-            if closed {
-                return Watch {
-                    drive,
-                    onlooker: before,
-                    taken: 0,
-                    next: put_end(output, next, before.past.heard),
-                    ended: true,
-                };
-            }
-            Watch {
-                drive,
-                onlooker: before,
-                taken: 0,
-                next,
-                ended: false,
-            }
-        }
-        Found::Unknown => Watch {
-            drive,
-            onlooker: before,
-            taken: 0,
-            next: put_end(output, next, before.past.heard),
-            ended: true,
-        },
+        Found::End => take_none(watch, false, output),
+        Found::Load => take_load(watch, settings_at(input, at), output),
+        Found::Cycle(fields) => take_cycle(watch, fields, output),
+        Found::Tick(fields) => take_tick(watch, fields, output),
+        Found::Short => take_none(watch, closed, output),
+        Found::Unknown => take_none(watch, true, output),
     }
 }

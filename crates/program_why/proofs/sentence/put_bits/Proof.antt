@@ -4,8 +4,8 @@ use Prim.Native.Nat.{_-_, _≤_}
 use native.Mathlib.Omega.{arith}
 use lib.ListN.{length}
 use borrow.Author.Needs.{needs}
-use Rattle.program_why.proofs.shown.put_bits.Statement.{statement}
-use Rattle.program_why.proofs.shown.put_bits.Tie as tie
+use Rattle.program_why.proofs.sentence.put_bits.Statement.{statement}
+use Rattle.program_why.proofs.sentence.put_bits.Tie as tie
 
 abbrev Inv-loop : tie.InvT-loop
 Inv-loop output₀ at live dead next₀ rest₀ number₀ output next rest number = (length output ≡ length output₀) × (number ≤ 16)
