@@ -1,15 +1,18 @@
 // What a record's sentences are made of.
-use onlooker::Onlooker;
+use crate::hear::Heard;
 use onlooker::past::Past;
 use onlooker::past::Seen;
 use settings::CONTROL_MODE;
 
-// The record's number; the states that the answers showed before it and after it, and whether the one before ran;
+// The record's number; its letter, and number and place of its answer; the states that the answers showed before it and after it, and whether the one before ran;
 // the note; mode 1; the records of the low and of the retry that permit a start, whether one was permitted, the retries counted; the last
 // low and the last trip before it; the record that lit the live word, and whether dead samples lit bit 15; live word and gates, before
 // and after.
 pub(crate) struct Event {
     pub(crate) nth: u64,
+    pub(crate) letter: u8,
+    pub(crate) number: u8,
+    pub(crate) place: u8,
     pub(crate) from: u8,
     pub(crate) to: u8,
     pub(crate) ran: bool,
@@ -33,30 +36,36 @@ fn permits(past: Past) -> bool {
     past.loaded & ((past.low != 0) | (past.retry != 0))
 }
 
-pub(crate) fn happened(before: Onlooker, after: Onlooker) -> Event {
-    let remembered = after.memory;
+pub(crate) fn happened(before: Heard, after: Heard, letter: u8) -> Event {
+    let earlier = before.onlooker;
+    let now = after.onlooker;
+    let past = earlier.past;
+    let was = earlier.scene;
+    let scene = now.scene;
+    let remembered = now.memory;
     let numbers = remembered.numbers;
-    let past = before.past;
-    let scene = after.scene;
-    let seen = after.seen;
+    let seen = now.seen;
     Event {
-        nth: after.past.heard,
-        from: before.memory.shown,
+        nth: now.past.heard,
+        letter,
+        number: after.answer.number,
+        place: after.answer.place,
+        from: earlier.memory.shown,
         to: remembered.shown,
-        ran: before.seen.running,
+        ran: earlier.seen.running,
         seen,
         timed: numbers[CONTROL_MODE] == 1,
         low: past.low,
         retry: past.retry,
         permitted: permits(past),
-        retries: after.past.retries,
-        last_low: before.scene.low,
-        last_trip: before.scene.trip,
+        retries: now.past.retries,
+        last_low: was.low,
+        last_trip: was.trip,
         lit: scene.lit,
         dead: scene.dead,
-        old_live: before.scene.live,
+        old_live: was.live,
         live: scene.live,
-        old_gate: before.scene.gate,
+        old_gate: was.gate,
         gate: scene.gate,
     }
 }

@@ -58,13 +58,13 @@ fn reason(letter: u8, number: u8, place: u8) -> u8 {
     }
 }
 
-pub(crate) fn refused(letter: u8, number: u8, place: u8) -> Sentence {
-    if number == 0 {
+pub(crate) fn refused(e: Event) -> Sentence {
+    if e.number == 0 {
         return plain(NOTHING);
     }
-    let row = refused_row(letter);
-    let word = reason(letter, number, place);
-    worded(row, number as u64, place as u64, word)
+    let row = refused_row(e.letter);
+    let word = reason(e.letter, e.number, e.place);
+    worded(row, e.number as u64, e.place as u64, word)
 }
 
 fn loaded_row(e: Event) -> u8 {

@@ -10,16 +10,16 @@ use crate::hear::Heard;
 use crate::hear::hear_cycle;
 use crate::hear::hear_load;
 use crate::hear::hear_tick;
+use crate::hear::silence;
+use crate::sentence::Sentence;
 use crate::sentence::plain;
 use crate::sentence::put_sentence;
 use crate::shown::gates;
 use crate::shown::live;
 use crate::shown::trip;
 use crate::words::NO_RECORD;
-use drive::Drive;
 use fields::Cycle;
 use fields::Tick;
-use onlooker::Onlooker;
 use records::CYCLE_SIZE;
 use records::Found;
 use records::LOAD_SIZE;
@@ -27,127 +27,128 @@ use records::TICK_SIZE;
 use records::read;
 use records::settings_at;
 use settings::SETTING_COUNT;
+ghost use mathlib.Core.Path.{_≡_};
 
-// The supervisor and the onlooker, how many bytes the record had, where the next sentence goes, and whether the run has ended.
+// What was heard last; how many bytes of the input are held from reads before, and how many are taken; where the next sentence goes;
+// whether the last step took a record, and whether the run has ended.
 pub(crate) struct Watch {
-    pub(crate) drive: Drive,
-    pub(crate) onlooker: Onlooker,
+    pub(crate) heard: Heard,
+    pub(crate) held: usize,
     pub(crate) taken: usize,
     pub(crate) next: usize,
+    pub(crate) going: bool,
     pub(crate) ended: bool,
 }
 
-fn put_happened(output: &mut [u8], at: usize, e: Event) -> usize {
-    let at = put_sentence(output, at, e.nth, loaded(e));
-    let at = put_sentence(output, at, e.nth, left(e));
-    let at = put_sentence(output, at, e.nth, start(e));
-    put_sentence(output, at, e.nth, stop(e))
-}
-
-fn put_shown(output: &mut [u8], at: usize, e: Event) -> usize {
-    let at = put_sentence(output, at, e.nth, trip(e));
-    let at = put_sentence(output, at, e.nth, live(e));
-    put_sentence(output, at, e.nth, gates(e))
-}
-
-fn put_sentences(output: &mut [u8], at: usize, e: Event) -> usize {
-    let next = put_happened(output, at, e);
-    put_shown(output, next, e)
-}
-
-// What is said of a call that was heard, and the watch after it.
-fn told(watch: Watch, heard: Heard, letter: u8, taken: usize, output: &mut [u8]) -> Watch {
-    let before = watch.onlooker;
-    let drive = heard.drive;
-    let onlooker = heard.onlooker;
-    let answer = heard.answer;
-    let e = happened(before, onlooker);
-    let next = put_sentence(
-        output,
-        watch.next,
-        e.nth,
-        refused(letter, answer.number, answer.place),
-    );
+// Before the first record.
+pub(crate) fn begun() -> Watch
+    ensures { λ r. ⌜ r .held ≡ 0 ⌝ }
+{
     Watch {
-        drive,
-        onlooker,
-        taken,
-        next: put_sentences(output, next, e),
+        heard: silence(),
+        held: 0,
+        taken: 0,
+        next: 0,
+        going: true,
         ended: false,
     }
 }
 
+// What can be said of a record, in the order in which it is said.
+fn sentence(e: Event, place: u8) -> Sentence {
+    match place {
+        0 => refused(e),
+        1 => loaded(e),
+        2 => left(e),
+        3 => start(e),
+        4 => stop(e),
+        5 => trip(e),
+        6 => live(e),
+        _ => gates(e),
+    }
+}
+
+fn put_sentences(output: &mut [u8], at: usize, e: Event) -> usize {
+    let mut next = at;
+    let mut place: u8 = 0;
+    while place < 8 {
+        next = put_sentence(output, next, e.nth, sentence(e, place));
+        place += 1;
+    }
+    next
+}
+
+// The place behind a record; there is none behind the last.
+fn behind(place: usize, size: usize) -> usize {
+    if place < usize::MAX - size {
+        place + size
+    } else {
+        usize::MAX
+    }
+}
+
+// What is said of a call that was heard, and the watch after it.
+fn told(watch: Watch, heard: Heard, letter: u8, size: usize, output: &mut [u8]) -> Watch {
+    let before = watch.heard;
+    let mut watch = watch;
+    watch.next = put_sentences(output, watch.next, happened(before, heard, letter));
+    watch.taken = behind(watch.taken, size);
+    watch.heard = heard;
+    watch
+}
+
 fn take_load(watch: Watch, numbers: [u16; SETTING_COUNT], output: &mut [u8]) -> Watch {
-    let drive = watch.drive;
-    let before = watch.onlooker;
-    told(
-        watch,
-        hear_load(drive, before, numbers),
-        b'L',
-        LOAD_SIZE,
-        output,
-    )
+    let before = watch.heard;
+    told(watch, hear_load(before, numbers), b'L', LOAD_SIZE, output)
 }
 
 fn take_cycle(watch: Watch, fields: Cycle, output: &mut [u8]) -> Watch {
-    let drive = watch.drive;
-    let before = watch.onlooker;
-    told(
-        watch,
-        hear_cycle(drive, before, fields),
-        b'C',
-        CYCLE_SIZE,
-        output,
-    )
+    let before = watch.heard;
+    told(watch, hear_cycle(before, fields), b'C', CYCLE_SIZE, output)
 }
 
 fn take_tick(watch: Watch, fields: Tick, output: &mut [u8]) -> Watch {
-    let drive = watch.drive;
-    let before = watch.onlooker;
-    told(
-        watch,
-        hear_tick(drive, before, fields),
-        b'T',
-        TICK_SIZE,
-        output,
-    )
+    let before = watch.heard;
+    told(watch, hear_tick(before, fields), b'T', TICK_SIZE, output)
+}
+
+// Nothing is taken from here on, unless more is read.
+fn take_none(watch: Watch) -> Watch {
+    let mut watch = watch;
+    watch.going = false;
+    watch
 }
 
 fn one_more(count: u64) -> u64 {
     if count < u64::MAX { count + 1 } else { count }
 }
 
-// Nothing is taken. A record that is none ends the run.
-fn take_none(watch: Watch, ended: bool, output: &mut [u8]) -> Watch {
+// A record that is none ends the run.
+fn end(watch: Watch, output: &mut [u8]) -> Watch {
+    let nth = one_more(watch.heard.onlooker.past.heard);
     let mut watch = watch;
-    watch.taken = 0;
-    watch.ended = ended;
-    if ended {
-        watch.next = put_sentence(
-            output,
-            watch.next,
-            one_more(watch.onlooker.past.heard),
-            plain(NO_RECORD),
-        );
-    }
+    watch.next = put_sentence(output, watch.next, nth, plain(NO_RECORD));
+    watch.going = false;
+    watch.ended = true;
     watch
 }
 
-// One record at most, from a place of the input on; `taken` is 0 where there is none to take.
-pub(crate) fn step(
-    watch: Watch,
-    input: &[u8],
-    at: usize,
-    closed: bool,
-    output: &mut [u8],
-) -> Watch {
+// One record at most.
+pub(crate) fn step(watch: Watch, input: &[u8], closed: bool, output: &mut [u8]) -> Watch {
+    let at = watch.taken;
     let found = read(input, at);
     match found {
-        Found::End => take_none(watch, false, output),
+        Found::End => take_none(watch),
         Found::Load => take_load(watch, settings_at(input, at), output),
         Found::Cycle(fields) => take_cycle(watch, fields, output),
         Found::Tick(fields) => take_tick(watch, fields, output),
-        Found::Short => take_none(watch, closed, output),
-        Found::Unknown => take_none(watch, true, output),
+        Found::Short => {
+            if closed {
+                end(watch, output)
+            } else {
+                take_none(watch)
+            }
+        }
+        Found::Unknown => end(watch, output),
     }
 }

@@ -6,7 +6,7 @@ use Rattle.program_why.proofs.flush.Statement.{statement}
 use Rattle.program_why.proofs.flush.Tie as tie
 
 slice-aggregate-write-out : tie.Need-slice-aggregate-write-out
-slice-aggregate-write-out c = sym (length-take-le _ _ (c .before .least .ensures .1))
+slice-aggregate-write-out c = sym (length-take-le _ _ (c .before .least .ensures))
 
 pub flush-spec : {M : Type 1} → statement M
 flush-spec = tie.close (tie.spec (search needs) slice-aggregate-write-out (search needs) (search needs) (search needs))

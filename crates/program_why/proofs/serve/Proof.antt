@@ -8,16 +8,16 @@ use Rattle.program_why.proofs.serve.Statement.{statement}
 use Rattle.program_why.proofs.serve.Tie as tie
 
 abbrev Inv-loop : tie.InvT-loop
-Inv-loop input₀ output₀ reads₀ held₀ input output reads held =
-    (length input ≡ length input₀) × (length output ≡ length output₀) × (held .count ≤ length input)
+Inv-loop input₀ output₀ reads₀ watch₀ input output reads watch =
+    (length input ≡ length input₀) × (length output ≡ length output₀) × (watch .held ≤ length input)
 
 abbrev μ-loop : tie.MeasureT-loop
-μ-loop input₀ output₀ reads₀ held₀ input output reads held = reads
+μ-loop input₀ output₀ reads₀ watch₀ input output reads watch = reads
 
 loop-again : tie.Need-loop-again Inv-loop μ-loop
 loop-again c =
     let read-on = c .before .before .before .before .read-on in
-    let inv = c .before .before .before .before .before .before .before .before .before .loop .inv in (
+    let inv = c .before .before .before .before .before .before .before .before .before .before .loop .inv in (
       read-on .kept .1 .0 ∙ inv .0,
       read-on .kept .1 .1 .0 ∙ inv .1,
       omega (arith, read-on .ensures, read-on .kept .1 .0),
@@ -25,7 +25,5 @@ loop-again c =
 
 pub serve-spec : {M : Type 1} → statement M
 serve-spec =
-    tie.close (tie.spec Inv-loop μ-loop (search needs) (search needs)
-    (λ c. (refl, refl, omega arith))
-    (search needs) (search needs) (search needs) loop-again (search needs) (search needs) (search needs)
-    (search needs) (search needs) (search needs))
+    tie.close (tie.spec Inv-loop μ-loop (search needs) (λ c. (refl, refl, omega (arith, c .begun .ensures))) (search needs)
+    (search needs) (search needs) loop-again (search needs) (search needs) (search needs) (search needs) (search needs) (search needs))
