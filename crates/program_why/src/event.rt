@@ -4,13 +4,20 @@ use onlooker::past::Past;
 use onlooker::past::Seen;
 use settings::CONTROL_MODE;
 
-// The record's number; its letter, and number and place of its answer; the states that the answers showed before it and after it, and whether the one before ran;
-// the note; mode 1; the records of the low and of the retry that permit a start, whether one was permitted, the retries counted; the last
+// The three calls.
+pub(crate) const LOAD: u8 = 1;
+
+pub(crate) const CYCLE: u8 = 2;
+
+pub(crate) const TICK: u8 = 3;
+
+// The record's number; which call it asked for, and number and place of the answer; the states that the answers showed before it and after it, and whether the one before ran;
+// the note; mode 1 and the loaded limit; the records of the low and of the retry that permit a start, whether one was permitted, the retries counted; the last
 // low and the last trip before it; the record that lit the live word, and whether dead samples lit bit 15; live word and gates, before
 // and after.
 pub(crate) struct Event {
     pub(crate) nth: u64,
-    pub(crate) letter: u8,
+    pub(crate) kind: u8,
     pub(crate) number: u8,
     pub(crate) place: u8,
     pub(crate) from: u8,
@@ -18,6 +25,7 @@ pub(crate) struct Event {
     pub(crate) ran: bool,
     pub(crate) seen: Seen,
     pub(crate) timed: bool,
+    pub(crate) limit: u64,
     pub(crate) low: u64,
     pub(crate) retry: u64,
     pub(crate) permitted: bool,
@@ -32,11 +40,15 @@ pub(crate) struct Event {
     pub(crate) gate: u8,
 }
 
+fn wide(number: u16) -> u64 {
+    number as u64
+}
+
 fn permits(past: Past) -> bool {
     past.loaded & ((past.low != 0) | (past.retry != 0))
 }
 
-pub(crate) fn happened(before: Heard, after: Heard, letter: u8) -> Event {
+pub(crate) fn happened(before: Heard, after: Heard, kind: u8) -> Event {
     let earlier = before.onlooker;
     let now = after.onlooker;
     let past = earlier.past;
@@ -47,7 +59,7 @@ pub(crate) fn happened(before: Heard, after: Heard, letter: u8) -> Event {
     let seen = now.seen;
     Event {
         nth: now.past.heard,
-        letter,
+        kind,
         number: after.answer.number,
         place: after.answer.place,
         from: earlier.memory.shown,
@@ -55,6 +67,7 @@ pub(crate) fn happened(before: Heard, after: Heard, letter: u8) -> Event {
         ran: earlier.seen.running,
         seen,
         timed: numbers[CONTROL_MODE] == 1,
+        limit: wide(seen.limit),
         low: past.low,
         retry: past.retry,
         permitted: permits(past),

@@ -5,6 +5,8 @@ use drive::offsets::Pair;
 use fields::Cycle;
 use fields::Tick;
 use onlooker::Onlooker;
+use records::Found;
+use records::settings_at;
 use settings::SETTING_COUNT;
 ghost use mathlib.Core.Path.{_≡_};
 ghost use Rattle.drive.specs.AnyCall.{loads, cycles, ticks};
@@ -84,5 +86,15 @@ pub(crate) fn hear_tick(before: Heard, fields: Tick) -> Heard
         drive,
         onlooker: onlooker.tick(fields, answer),
         answer,
+    }
+}
+
+// The call that a record asks for; without one nothing more is heard.
+pub(crate) fn hear(before: Heard, found: Found, input: &[u8], at: usize) -> Heard {
+    match found {
+        Found::Load => hear_load(before, settings_at(input, at)),
+        Found::Cycle(fields) => hear_cycle(before, fields),
+        Found::Tick(fields) => hear_tick(before, fields),
+        _ => before,
     }
 }

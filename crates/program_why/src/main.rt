@@ -16,9 +16,9 @@ use records::INPUT_SIZE;
 use records::OUTPUT_SIZE;
 use watch::Watch;
 use watch::begun;
+use watch::behind;
 use watch::step;
 ghost use Prim.Native.Nat.{_≤_};
-ghost use lib.ListN.{length};
 
 // The output is written where less than this is left of it. The sentences of a record have some 2,000 bytes at most: sixteen bits of
 // fewer than 60 bytes each, twice, and seven more sentences of fewer than 130.
@@ -36,75 +36,48 @@ fn flush(output: &[u8], next: usize) -> bool {
     write_out(&output[..end], b"why: standard output")
 }
 
-// Writes the sentences so far, and empties the output. Where they cannot be written the run ends.
+// Writes the sentences where no record was taken, or the next one's may have no room. Where they cannot be written the run ends.
 fn flushed(watch: Watch, output: &[u8]) -> Watch {
+    if watch.going & (watch.next <= OUTPUT_SIZE - SPARE) {
+        return watch;
+    }
     let mut watch = watch;
     watch.ended = !flush(output, watch.next) | watch.ended;
     watch.next = 0;
     watch
 }
 
-// Makes room for the sentences of one record more.
-fn with_room(watch: Watch, output: &[u8]) -> Watch {
-    if watch.next <= OUTPUT_SIZE - SPARE {
-        return watch;
-    }
-    flushed(watch, output)
-}
-
-// Tells of the whole records that the input holds. Each has a byte at least, so there are no more steps than bytes.
-fn tell(watch: Watch, input: &[u8], closed: bool, output: &mut [u8]) -> Watch {
+// Moves what is left of the input to the front, and reads once behind it. A read that fails ends the program; one of no bytes is the
+// end of the input.
+fn read_on(watch: Watch, input: &mut [u8]) -> Watch {
+    let held = move_to_front(input, watch.taken, watch.filled);
+    let piece = read_behind(input, held, b"why: standard input");
     let mut watch = watch;
-    let mut steps = input.len();
-    while 0 < steps && watch.going {
-        watch = with_room(step(watch, input, closed, output), output);
-        steps -= 1;
-    }
-    flushed(watch, output)
-}
-
-// Moves what is left of the input to the front, for the next read.
-fn rested(watch: Watch, input: &mut [u8], filled: usize, closed: bool) -> Watch
-    ensures { λ r. ⌜ r .held ≤ length (now (input .entry)) ⌝ }
-{
-    let mut watch = watch;
-    watch.held = move_to_front(input, watch.taken, filled);
     watch.taken = 0;
-    watch.going = true;
-    watch.ended = watch.ended | closed;
+    watch.filled = behind(held, piece.brought);
+    watch.closed = piece.brought == 0;
+    watch.ended = piece.failed;
     watch
 }
 
-// Tells of the first `filled` bytes of the buffer.
-fn take_in(watch: Watch, input: &mut [u8], filled: usize, closed: bool, output: &mut [u8]) -> Watch
-    requires { ⌜ filled ≤ length (now input) ⌝ }
-    ensures { λ r. ⌜ r .held ≤ length (now (input .entry)) ⌝ }
-{
-    let watch = tell(watch, &input[..filled], closed, output);
-    rested(watch, input, filled, closed)
-}
-
-// Reads once behind the bytes that are held. A read that fails ends the program; one of no bytes is the end of the input.
-fn read_on(watch: Watch, input: &mut [u8], output: &mut [u8]) -> Watch
-    requires { ⌜ watch .held ≤ length (now input) ⌝ }
-    ensures { λ r. ⌜ r .held ≤ length (now (input .entry)) ⌝ }
-{
-    let held = watch.held;
-    let piece = read_behind(input, held, b"why: standard input");
-    if piece.failed {
-        return rested(watch, input, held, true);
+// One record, or one read where there is none.
+fn turn(watch: Watch, input: &mut [u8], output: &mut [u8]) -> Watch {
+    let filled = least(watch.filled, input.len());
+    let watch = step(watch, &input[..filled], output);
+    let watch = flushed(watch, output);
+    if watch.going | watch.ended {
+        return watch;
     }
-    let brought = piece.brought;
-    take_in(watch, input, held + brought, brought == 0, output)
+    read_on(watch, input)
 }
 
-// A proved loop has to end, and nothing says that the input does: the reads are counted down from a number that no run uses up.
+// A proved loop has to end, and nothing says that the input does: the turns are counted down from a number that no run uses up.
 fn serve(input: &mut [u8], output: &mut [u8]) {
-    let mut reads = u64::MAX;
+    let mut turns = u64::MAX;
     let mut watch = begun();
-    while 0 < reads && !watch.ended {
-        watch = read_on(watch, input, output);
-        reads -= 1;
+    while 0 < turns && !watch.ended {
+        watch = turn(watch, input, output);
+        turns -= 1;
     }
 }
 

@@ -5,7 +5,6 @@ use crate::words::bit_word;
 use crate::words::put_line;
 use crate::words::put_word;
 use text::put;
-use text::put_column;
 
 // The row that says it and the row's numbers; the word behind it, or the bits of a live word with what lit bit 15.
 pub(crate) struct Sentence {
@@ -18,7 +17,7 @@ pub(crate) struct Sentence {
 }
 
 pub(crate) fn plain(row: u8) -> Sentence {
-    numbered(row, 0, 0)
+    worded(row, 0, 0, NO_WORD)
 }
 
 pub(crate) fn numbered(row: u8, first: u64, second: u64) -> Sentence {
@@ -45,13 +44,6 @@ pub(crate) fn lit(row: u8, first: u64, live: u16, dead: bool) -> Sentence {
         live,
         dead,
     }
-}
-
-// How a sentence begins: the record's number takes five columns where they are enough.
-fn put_head(output: &mut [u8], at: usize, nth: u64) -> usize {
-    let at = put(output, at, b"record ");
-    let at = put_column(output, at, nth, 5);
-    put(output, at, b"  ")
 }
 
 // The lowest bit of what is left of a live word, where it is set.
@@ -83,8 +75,7 @@ pub(crate) fn put_sentence(output: &mut [u8], at: usize, nth: u64, s: Sentence) 
     if s.row == NOTHING {
         return at;
     }
-    let at = put_head(output, at, nth);
-    let at = put_line(output, at, s.row, s.first, s.second);
+    let at = put_line(output, at, s.row, nth, s.first, s.second);
     let at = put_word(output, at, s.word);
     let at = put_bits(output, at, s.live, s.dead);
     put(output, at, b"\n")

@@ -1,5 +1,8 @@
 // One record: the call that it asks for, the supervisor's answer, what the onlooker makes of both, and its sentences.
+use crate::event::CYCLE;
 use crate::event::Event;
+use crate::event::LOAD;
+use crate::event::TICK;
 use crate::event::happened;
 use crate::happened::left;
 use crate::happened::loaded;
@@ -7,9 +10,7 @@ use crate::happened::refused;
 use crate::happened::start;
 use crate::happened::stop;
 use crate::hear::Heard;
-use crate::hear::hear_cycle;
-use crate::hear::hear_load;
-use crate::hear::hear_tick;
+use crate::hear::hear;
 use crate::hear::silence;
 use crate::sentence::Sentence;
 use crate::sentence::plain;
@@ -18,38 +19,33 @@ use crate::shown::gates;
 use crate::shown::live;
 use crate::shown::trip;
 use crate::words::NO_RECORD;
-use fields::Cycle;
-use fields::Tick;
 use records::CYCLE_SIZE;
 use records::Found;
 use records::LOAD_SIZE;
 use records::TICK_SIZE;
 use records::read;
-use records::settings_at;
-use settings::SETTING_COUNT;
-ghost use mathlib.Core.Path.{_≡_};
 
-// What was heard last; how many bytes of the input are held from reads before, and how many are taken; where the next sentence goes;
-// whether the last step took a record, and whether the run has ended.
+// What was heard last; how many bytes of the input are filled, and how many of these are taken; where the next sentence goes; whether the
+// last step took a record, whether no more input will come, and whether the run has ended.
 pub(crate) struct Watch {
     pub(crate) heard: Heard,
-    pub(crate) held: usize,
+    pub(crate) filled: usize,
     pub(crate) taken: usize,
     pub(crate) next: usize,
     pub(crate) going: bool,
+    pub(crate) closed: bool,
     pub(crate) ended: bool,
 }
 
 // Before the first record.
-pub(crate) fn begun() -> Watch
-    ensures { λ r. ⌜ r .held ≡ 0 ⌝ }
-{
+pub(crate) fn begun() -> Watch {
     Watch {
         heard: silence(),
-        held: 0,
+        filled: 0,
         taken: 0,
         next: 0,
-        going: true,
+        going: false,
+        closed: false,
         ended: false,
     }
 }
@@ -78,8 +74,8 @@ fn put_sentences(output: &mut [u8], at: usize, e: Event) -> usize {
     next
 }
 
-// The place behind a record; there is none behind the last.
-fn behind(place: usize, size: usize) -> usize {
+// The place so many bytes behind another; there is none behind the last.
+pub(crate) fn behind(place: usize, size: usize) -> usize {
     if place < usize::MAX - size {
         place + size
     } else {
@@ -87,68 +83,68 @@ fn behind(place: usize, size: usize) -> usize {
     }
 }
 
-// What is said of a call that was heard, and the watch after it.
-fn told(watch: Watch, heard: Heard, letter: u8, size: usize, output: &mut [u8]) -> Watch {
-    let before = watch.heard;
-    let mut watch = watch;
-    watch.next = put_sentences(output, watch.next, happened(before, heard, letter));
-    watch.taken = behind(watch.taken, size);
-    watch.heard = heard;
-    watch
+// Which call a whole record asks for, 0 for none.
+fn kind_of(found: Found) -> u8 {
+    match found {
+        Found::Load => LOAD,
+        Found::Cycle(_) => CYCLE,
+        Found::Tick(_) => TICK,
+        _ => 0,
+    }
 }
 
-fn take_load(watch: Watch, numbers: [u16; SETTING_COUNT], output: &mut [u8]) -> Watch {
-    let before = watch.heard;
-    told(watch, hear_load(before, numbers), b'L', LOAD_SIZE, output)
+fn size_of(kind: u8) -> usize {
+    match kind {
+        LOAD => LOAD_SIZE,
+        CYCLE => CYCLE_SIZE,
+        _ => TICK_SIZE,
+    }
 }
 
-fn take_cycle(watch: Watch, fields: Cycle, output: &mut [u8]) -> Watch {
-    let before = watch.heard;
-    told(watch, hear_cycle(before, fields), b'C', CYCLE_SIZE, output)
-}
-
-fn take_tick(watch: Watch, fields: Tick, output: &mut [u8]) -> Watch {
-    let before = watch.heard;
-    told(watch, hear_tick(before, fields), b'T', TICK_SIZE, output)
-}
-
-// Nothing is taken from here on, unless more is read.
-fn take_none(watch: Watch) -> Watch {
-    let mut watch = watch;
-    watch.going = false;
-    watch
+// What stands there is neither the end of the input nor a record that may still be completed.
+fn is_none(found: Found, closed: bool) -> bool {
+    match found {
+        Found::Unknown => true,
+        Found::Short => closed,
+        _ => false,
+    }
 }
 
 fn one_more(count: u64) -> u64 {
     if count < u64::MAX { count + 1 } else { count }
 }
 
-// A record that is none ends the run.
-fn end(watch: Watch, output: &mut [u8]) -> Watch {
-    let nth = one_more(watch.heard.onlooker.past.heard);
+// No record is taken. What is none ends the run, and so does the end of the input.
+fn take_none(watch: Watch, none: bool, output: &mut [u8]) -> Watch {
     let mut watch = watch;
-    watch.next = put_sentence(output, watch.next, nth, plain(NO_RECORD));
     watch.going = false;
-    watch.ended = true;
+    watch.ended = watch.closed | none;
+    if none {
+        let nth = one_more(watch.heard.onlooker.past.heard);
+        watch.next = put_sentence(output, watch.next, nth, plain(NO_RECORD));
+    }
+    watch
+}
+
+// A record is taken: its call was made and heard, and what is to be said of it is put.
+fn take(watch: Watch, heard: Heard, kind: u8, output: &mut [u8]) -> Watch {
+    let before = watch.heard;
+    let mut watch = watch;
+    watch.going = true;
+    watch.taken = behind(watch.taken, size_of(kind));
+    watch.next = put_sentences(output, watch.next, happened(before, heard, kind));
+    watch.heard = heard;
     watch
 }
 
 // One record at most.
-pub(crate) fn step(watch: Watch, input: &[u8], closed: bool, output: &mut [u8]) -> Watch {
+pub(crate) fn step(watch: Watch, input: &[u8], output: &mut [u8]) -> Watch {
     let at = watch.taken;
     let found = read(input, at);
-    match found {
-        Found::End => take_none(watch),
-        Found::Load => take_load(watch, settings_at(input, at), output),
-        Found::Cycle(fields) => take_cycle(watch, fields, output),
-        Found::Tick(fields) => take_tick(watch, fields, output),
-        Found::Short => {
-            if closed {
-                end(watch, output)
-            } else {
-                take_none(watch)
-            }
-        }
-        Found::Unknown => end(watch, output),
+    let kind = kind_of(found);
+    if kind == 0 {
+        return take_none(watch, is_none(found, watch.closed), output);
     }
+    let before = watch.heard;
+    take(watch, hear(before, found, input, at), kind, output)
 }

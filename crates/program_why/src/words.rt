@@ -1,45 +1,41 @@
 // Every word that the program says, in those of document 01. A row's number is its line, from 0 on.
+use crate::event::CYCLE;
 use crate::writer::put_row;
 ghost use Prim.Native.Nat.{_+_, _≤_};
 
-// The sentences, without `record` and its number in front. Each `#` stands for the sentence's next number; behind a colon at the end
-// comes a word, or the bits of a live word.
-const SENTENCES: [u8; 966] = *b"
-load refused: number #, place #:
-cycle refused: number #, place #:
-tick refused: number #, place #:
-refused: number 6, place 0: unknown or short record; the run ends
-loaded: mode 0, no timed retries
-loaded: mode 1, # retry allowed
-loaded: mode 1, # retries allowed
-FAULT left: clear
-FAULT left: clear; a live cause stood
-FAULT left: timed retry # of #; no live cause stood
-FAULT left: timed retry # of #; a live cause stood
-FAULT left: neither clear nor timed retry; no live cause stood
-FAULT left: neither clear nor timed retry; a live cause stood
-a starting or running state entered without a start
-start: not permitted
-start: permitted by the low command at record #
-start: permitted by the timed retry at record #; no low was held since the trip
-start: permitted by the timed retry at record #; the last low was held before it, at record #
-stop: low command
-stop: load
-stop: without a low command
-trip:
-trip by record #:
-trip: no live bit is shown
-live:
-gates:
+// The sentences. `@` stands for the record's number, `#` and `$` for the numbers that a sentence tells; behind a colon at the end comes
+// a word, or the bits of a live word. The rows of the refusals have the calls' numbers, and an exit's row has behind it the one that says
+// that a live cause stood.
+const SENTENCES: [u8; 1226] = *b"
+record @  load refused: number #, place $:
+record @  cycle refused: number #, place $:
+record @  tick refused: number #, place $:
+record @  refused: number 6, place 0: unknown or short record; the run ends
+record @  loaded: mode 0, no timed retries
+record @  loaded: mode 1, # retry allowed
+record @  loaded: mode 1, # retries allowed
+record @  FAULT left: clear
+record @  FAULT left: clear; a live cause stood
+record @  FAULT left: timed retry # of $; no live cause stood
+record @  FAULT left: timed retry # of $; a live cause stood
+record @  FAULT left: neither clear nor timed retry; no live cause stood
+record @  FAULT left: neither clear nor timed retry; a live cause stood
+record @  a starting or running state entered without a start
+record @  start: not permitted
+record @  start: permitted by the low command at record #
+record @  start: permitted by the timed retry at record #; no low was held since the trip
+record @  start: permitted by the timed retry at record #; the last low was held before it, at record $
+record @  stop: low command
+record @  stop: load
+record @  stop: without a low command
+record @  trip:
+record @  trip by record #:
+record @  trip: no live bit is shown
+record @  live:
+record @  gates:
 ";
 
 pub(crate) const NOTHING: u8 = 0;
-
-pub(crate) const LOAD_REFUSED: u8 = 1;
-
-pub(crate) const CYCLE_REFUSED: u8 = 2;
-
-pub(crate) const TICK_REFUSED: u8 = 3;
 
 pub(crate) const NO_RECORD: u8 = 4;
 
@@ -51,15 +47,9 @@ pub(crate) const LOADED_WITH_RETRIES: u8 = 7;
 
 pub(crate) const LEFT_BY_CLEAR: u8 = 8;
 
-pub(crate) const LEFT_BY_CLEAR_WITH_CAUSE: u8 = 9;
-
 pub(crate) const LEFT_BY_RETRY: u8 = 10;
 
-pub(crate) const LEFT_BY_RETRY_WITH_CAUSE: u8 = 11;
-
 pub(crate) const LEFT: u8 = 12;
-
-pub(crate) const LEFT_WITH_CAUSE: u8 = 13;
 
 pub(crate) const BEGAN: u8 = 14;
 
@@ -87,8 +77,15 @@ pub(crate) const LIVE: u8 = 25;
 
 pub(crate) const GATES: u8 = 26;
 
-pub(crate) fn put_line(output: &mut [u8], at: usize, row: u8, first: u64, second: u64) -> usize {
-    put_row(output, at, &SENTENCES, row, first, second)
+pub(crate) fn put_line(
+    output: &mut [u8],
+    at: usize,
+    row: u8,
+    nth: u64,
+    first: u64,
+    second: u64,
+) -> usize {
+    put_row(output, at, &SENTENCES, row, nth, first, second)
 }
 
 // What may stand behind a sentence, each with its blank in front: the bits of the live word, bit 15 once more; what the gates do; what a
@@ -211,14 +208,13 @@ pub(crate) fn setting_word(place: u8) -> u8 {
     row_of(SETTINGS, place, 25)
 }
 
-pub(crate) fn cycle_word(place: u8) -> u8 {
-    row_of(CYCLE_FIELDS, place, 4)
-}
-
-pub(crate) fn tick_word(place: u8) -> u8 {
+pub(crate) fn field_word(kind: u8, place: u8) -> u8 {
+    if kind == CYCLE {
+        return row_of(CYCLE_FIELDS, place, 4);
+    }
     row_of(TICK_FIELDS, place, 12)
 }
 
 pub(crate) fn put_word(output: &mut [u8], at: usize, row: u8) -> usize {
-    put_row(output, at, &WORDS, row, 0, 0)
+    put_row(output, at, &WORDS, row, 0, 0, 0)
 }

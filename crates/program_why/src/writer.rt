@@ -1,8 +1,8 @@
 // A row of a text, written with its numbers.
 use text::put;
+use text::put_column;
 use text::put_decimal;
-ghost use Prim.Native.Nat.{_<_, _≤_};
-ghost use lib.ListN.{length};
+ghost use Prim.Native.Nat.{_<_};
 
 // One row fewer is to be passed at the end of a row.
 fn rows_left(left: u8, byte: u8) -> u8
@@ -22,53 +22,32 @@ fn row_start(text: &[u8], row: u8) -> usize {
     at
 }
 
-// Where the next byte goes, the numbers that are still to be put, and whether the row goes on.
-struct Pen {
-    next: usize,
-    first: u64,
-    second: u64,
-    going: bool,
-}
-
-// Puts a byte of the row, or the next number in place of its mark.
-fn put_byte(output: &mut [u8], pen: Pen, byte: u8) -> Pen {
-    if byte == b'\n' {
-        return Pen {
-            going: false,
-            ..pen
-        };
-    }
-    if byte == b'#' {
-        return Pen {
-            next: put_decimal(output, pen.next, pen.first),
-            first: pen.second,
-            ..pen
-        };
-    }
-    Pen {
-        next: put(output, pen.next, &[byte]),
-        ..pen
+// A byte of a row, or the number that it stands for: `@` for the record's, which takes five columns where they are enough, `#` and `$`
+// for the first and the second that the row tells.
+fn put_byte(output: &mut [u8], at: usize, byte: u8, nth: u64, first: u64, second: u64) -> usize {
+    match byte {
+        b'@' => put_column(output, at, nth, 5),
+        b'#' => put_decimal(output, at, first),
+        b'$' => put_decimal(output, at, second),
+        _ => put(output, at, &[byte]),
     }
 }
 
+// Puts a row of a text, up to its line feed.
 pub(crate) fn put_row(
     output: &mut [u8],
     at: usize,
     text: &[u8],
     row: u8,
+    nth: u64,
     first: u64,
     second: u64,
 ) -> usize {
-    let mut pen = Pen {
-        next: at,
-        first,
-        second,
-        going: true,
-    };
+    let mut next = at;
     let mut i = row_start(text, row);
-    while i < text.len() && pen.going {
-        pen = put_byte(output, pen, text[i]);
+    while i < text.len() && text[i] != b'\n' {
+        next = put_byte(output, next, text[i], nth, first, second);
         i += 1;
     }
-    pen.next
+    next
 }

@@ -1,29 +1,17 @@
--- `serve` is safe and ends: both buffers keep their length, what is held stays within its buffer, and the reads fall.
-use mathlib.Core.Path.{_≡_, refl, _∙_}
-use Prim.Native.Nat.{_≤_}
-use native.Mathlib.Omega.{arith}
+-- `serve` ends, since its turns fall; both buffers keep their length.
+use mathlib.Core.Path.{_≡_, refl}
 use lib.ListN.{length}
 use borrow.Author.Needs.{needs}
 use Rattle.program_why.proofs.serve.Statement.{statement}
 use Rattle.program_why.proofs.serve.Tie as tie
 
 abbrev Inv-loop : tie.InvT-loop
-Inv-loop input₀ output₀ reads₀ watch₀ input output reads watch =
-    (length input ≡ length input₀) × (length output ≡ length output₀) × (watch .held ≤ length input)
+Inv-loop input₀ output₀ turns₀ watch₀ input output turns watch = (length input ≡ length input₀) × (length output ≡ length output₀)
 
 abbrev μ-loop : tie.MeasureT-loop
-μ-loop input₀ output₀ reads₀ watch₀ input output reads watch = reads
-
-loop-again : tie.Need-loop-again Inv-loop μ-loop
-loop-again c =
-    let read-on = c .before .before .before .before .read-on in
-    let inv = c .before .before .before .before .before .before .before .before .before .before .loop .inv in (
-      read-on .kept .1 .0 ∙ inv .0,
-      read-on .kept .1 .1 .0 ∙ inv .1,
-      omega (arith, read-on .ensures, read-on .kept .1 .0),
-    )
+μ-loop input₀ output₀ turns₀ watch₀ input output turns watch = turns
 
 pub serve-spec : {M : Type 1} → statement M
 serve-spec =
-    tie.close (tie.spec Inv-loop μ-loop (search needs) (λ c. (refl, refl, omega (arith, c .begun .ensures))) (search needs)
-    (search needs) (search needs) loop-again (search needs) (search needs) (search needs) (search needs) (search needs) (search needs))
+    tie.close (tie.spec Inv-loop μ-loop (search needs) (λ c. (refl, refl)) (search needs) (search needs) (search needs)
+    (λ c. (search needs, search needs)) (search needs) (search needs) (search needs) (search needs) (search needs) (search needs))
