@@ -49,36 +49,32 @@ fn permits(past: Past) -> bool {
 }
 
 pub(crate) fn happened(before: Heard, after: Heard, kind: u8) -> Event {
-    let earlier = before.onlooker;
-    let now = after.onlooker;
-    let past = earlier.past;
-    let was = earlier.scene;
-    let scene = now.scene;
-    let remembered = now.memory;
-    let numbers = remembered.numbers;
-    let seen = now.seen;
+    let past = before.onlooker.past;
+    let memory = after.onlooker.memory;
+    let numbers = memory.numbers;
+    let seen = after.onlooker.seen;
     Event {
-        nth: now.past.heard,
+        nth: after.onlooker.past.heard,
         kind,
         number: after.answer.number,
         place: after.answer.place,
-        from: earlier.memory.shown,
-        to: remembered.shown,
-        ran: earlier.seen.running,
+        from: before.onlooker.memory.shown,
+        to: memory.shown,
+        ran: before.onlooker.seen.running,
         seen,
         timed: numbers[CONTROL_MODE] == 1,
         limit: wide(seen.limit),
         low: past.low,
         retry: past.retry,
         permitted: permits(past),
-        retries: now.past.retries,
-        last_low: was.low,
-        last_trip: was.trip,
-        lit: scene.lit,
-        dead: scene.dead,
-        old_live: was.live,
-        live: scene.live,
-        old_gate: was.gate,
-        gate: scene.gate,
+        retries: after.onlooker.past.retries,
+        last_low: before.onlooker.scene.low,
+        last_trip: before.onlooker.scene.trip,
+        lit: after.onlooker.scene.lit,
+        dead: after.onlooker.scene.dead,
+        old_live: before.onlooker.scene.live,
+        live: after.onlooker.scene.live,
+        old_gate: before.onlooker.scene.gate,
+        gate: after.onlooker.scene.gate,
     }
 }

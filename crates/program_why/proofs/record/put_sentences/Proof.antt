@@ -4,8 +4,8 @@ use Prim.Native.Nat.{_-_, _≤_}
 use native.Mathlib.Omega.{arith}
 use lib.ListN.{length}
 use borrow.Author.Needs.{needs}
-use Rattle.program_why.proofs.watch.put_sentences.Statement.{statement}
-use Rattle.program_why.proofs.watch.put_sentences.Tie as tie
+use Rattle.program_why.proofs.record.put_sentences.Statement.{statement}
+use Rattle.program_why.proofs.record.put_sentences.Tie as tie
 
 abbrev Inv-loop : tie.InvT-loop
 Inv-loop output₀ at e next₀ place₀ output next place = (length output ≡ length output₀) × (place ≤ 8)
