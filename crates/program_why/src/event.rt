@@ -1,6 +1,5 @@
 // What a record's sentences are made of.
 use crate::hear::Heard;
-use onlooker::past::Past;
 use onlooker::past::Seen;
 use settings::CONTROL_MODE;
 
@@ -44,10 +43,6 @@ fn wide(number: u16) -> u64 {
     number as u64
 }
 
-fn permits(past: Past) -> bool {
-    past.loaded & ((past.low != 0) | (past.retry != 0))
-}
-
 pub(crate) fn happened(before: Heard, after: Heard, kind: u8) -> Event {
     let past = before.onlooker.past;
     let memory = after.onlooker.memory;
@@ -66,7 +61,7 @@ pub(crate) fn happened(before: Heard, after: Heard, kind: u8) -> Event {
         limit: wide(seen.limit),
         low: past.low,
         retry: past.retry,
-        permitted: permits(past),
+        permitted: past.loaded & ((past.low != 0) | (past.retry != 0)),
         retries: after.onlooker.past.retries,
         last_low: before.onlooker.scene.low,
         last_trip: before.onlooker.scene.trip,

@@ -59,13 +59,15 @@ fn put_sentences(output: &mut [u8], at: usize, e: Event) -> usize {
     next
 }
 
-// Which call a whole record asks for, 0 for none.
-fn kind_of(found: Found) -> u8 {
+// Which call a record asks for; NO_RECORD for what is none, and NOTHING where more may come or there is no more.
+fn kind_of(found: Found, closed: bool) -> u8 {
     match found {
         Found::Load => LOAD,
         Found::Cycle(_) => CYCLE,
         Found::Tick(_) => TICK,
-        _ => 0,
+        Found::Short => if closed { NO_RECORD } else { NOTHING },
+        Found::Unknown => NO_RECORD,
+        Found::End => NOTHING,
     }
 }
 
@@ -77,34 +79,16 @@ fn size_of(kind: u8) -> usize {
     }
 }
 
-// What stands there is neither the end of the input nor a record that may still be completed.
-fn is_none(found: Found, closed: bool) -> bool {
-    match found {
-        Found::Unknown => true,
-        Found::Short => closed,
-        _ => false,
-    }
-}
-
 fn one_more(count: u64) -> u64 {
     if count < u64::MAX { count + 1 } else { count }
 }
 
-// The last sentence, where what stands there is no record.
-fn ending(none: bool) -> Sentence {
-    if none {
-        plain(NO_RECORD)
-    } else {
-        plain(NOTHING)
-    }
-}
-
 // No record is taken. What is none ends the run, and so does the end of the input.
-fn take_none(places: Places, none: bool, nth: u64, input: &mut [u8], output: &mut [u8]) -> Places {
-    let next = put_sentence(output, places.next, nth, ending(none));
+fn take_none(places: Places, row: u8, nth: u64, input: &mut [u8], output: &mut [u8]) -> Places {
+    let next = put_sentence(output, places.next, nth, plain(row));
     let places = Places {
         next,
-        ended: places.closed | none,
+        ended: places.closed | (row == NO_RECORD),
         ..places
     };
     refilled(places, input, output)
@@ -130,10 +114,10 @@ pub(crate) fn turn(
     input: &mut [u8],
     output: &mut [u8],
 ) -> Places {
-    let kind = kind_of(found);
-    if kind == 0 {
+    let kind = kind_of(found, places.closed);
+    if (kind == NOTHING) | (kind == NO_RECORD) {
         let nth = one_more(before.onlooker.past.heard);
-        return take_none(places, is_none(found, places.closed), nth, input, output);
+        return take_none(places, kind, nth, input, output);
     }
     take(places, size_of(kind), happened(before, after, kind), output)
 }

@@ -1,5 +1,5 @@
 -- `serve` ends, since its turns fall; both buffers keep their length.
-use mathlib.Core.Path.{_≡_, refl}
+use mathlib.Core.Path.{_≡_, refl, _∙_}
 use lib.ListN.{length}
 use borrow.Author.Needs.{needs}
 use Rattle.program_why.proofs.serve.Statement.{statement}
@@ -12,8 +12,14 @@ Inv-loop input₀ output₀ turns₀ heard₀ places₀ input output turns heard
 abbrev μ-loop : tie.MeasureT-loop
 μ-loop input₀ output₀ turns₀ heard₀ places₀ input output turns heard places = turns
 
+loop-again : tie.Need-loop-again Inv-loop μ-loop
+loop-again c =
+    let turned = c .before .before .before .before in
+    let inv = turned .before .before .before .before .before .before .before .before .before .before .loop .inv in
+    (turned .turn .kept .1 .1 .1 .1 .0 ∙ inv .0, turned .turn .kept .1 .1 .1 .1 .1 .0 ∙ inv .1)
+
 pub serve-spec : {M : Type 1} → statement M
 serve-spec =
-    tie.close (tie.spec Inv-loop μ-loop (search needs) (λ c. (refl, refl)) (search needs) (search needs) (search needs)
-    (search needs) (search needs) (λ c. (search needs, search needs)) (search needs) (search needs) (search needs) (search needs)
-    (search needs) (search needs))
+    tie.close (tie.spec Inv-loop μ-loop (λ c κs. tt) (λ c. (refl, refl)) (λ c κs. tt) (λ c κs. tt) (λ c κs. tt) (search needs)
+    (search needs) loop-again (λ c. c .before .before .before .loop .inv .0) (λ c. c .before .before .before .loop .inv .1)
+    (λ c. tt) (λ c. c .before .loop .inv .0) (λ c. c .before .loop .inv .1) (λ c. tt))

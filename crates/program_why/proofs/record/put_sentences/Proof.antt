@@ -1,5 +1,5 @@
 -- `put_sentences` puts eight sentences; the output keeps its length.
-use mathlib.Core.Path.{_≡_, refl}
+use mathlib.Core.Path.{_≡_, refl, _∙_}
 use Prim.Native.Nat.{_-_, _≤_}
 use native.Mathlib.Omega.{arith}
 use lib.ListN.{length}
@@ -13,7 +13,12 @@ Inv-loop output₀ at e next₀ place₀ output next place = (length output ≡ 
 abbrev μ-loop : tie.MeasureT-loop
 μ-loop output₀ at e next₀ place₀ output next place = 8 - place
 
+loop-again : tie.Need-loop-again Inv-loop μ-loop
+loop-again c =
+    let put = c .before .before in
+    (put .put-sentence .kept .0 ∙ put .before .before .before .before .loop .inv .0, search needs)
+
 pub put-sentences-spec : {M : Type 1} → statement M
 put-sentences-spec =
-    tie.close (tie.spec Inv-loop μ-loop (λ c. (refl, omega arith)) (search needs) (search needs) (search needs)
-    (search needs) (λ c. (search needs, search needs)) (search needs) (search needs))
+    tie.close (tie.spec Inv-loop μ-loop (λ c. (refl, omega arith)) (λ c κs. tt) (λ c κs. tt) (search needs) (search needs)
+    loop-again (λ c. c .before .loop .inv .0) (λ c. tt))

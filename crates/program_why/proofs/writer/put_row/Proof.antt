@@ -1,5 +1,5 @@
 -- `put_row` looks at each byte of the text once at most; the output keeps its length.
-use mathlib.Core.Path.{_≡_, refl}
+use mathlib.Core.Path.{_≡_, refl, _∙_}
 use Prim.Native.Nat.{_-_}
 use lib.ListN.{length}
 use borrow.Author.Needs.{needs}
@@ -12,7 +12,12 @@ Inv-loop output₀ at text row nth first second next₀ i₀ output next i = len
 abbrev μ-loop : tie.MeasureT-loop
 μ-loop output₀ at text row nth first second next₀ i₀ output next i = length text - i
 
+loop-again : tie.Need-loop-again Inv-loop μ-loop
+loop-again c =
+    let put = c .before .before in
+    put .put-byte .kept .0 ∙ put .before .before .before .before .before .before .loop .inv
+
 pub put-row-spec : {M : Type 1} → statement M
 put-row-spec =
-    tie.close (tie.spec Inv-loop μ-loop (search needs) (λ c. refl) (search needs) (search needs) (search needs) (search needs)
-    (search needs) (search needs) (search needs) (search needs) (search needs) (search needs))
+    tie.close (tie.spec Inv-loop μ-loop (λ c κs. tt) (λ c. refl) (search needs) (search needs) (λ c κs. tt) (search needs)
+    (search needs) loop-again (λ c. c .before .before .before .loop .inv) (λ c. tt) (λ c. c .before .loop .inv) (λ c. tt))
