@@ -1,7 +1,8 @@
 -- `serve` ends, since its turns fall; both buffers keep their length.
 use mathlib.Core.Path.{_≡_, refl, _∙_}
+use Prim.Native.Nat.{ℕ, _-_, _<_}
+use native.Mathlib.Omega.{arith}
 use lib.ListN.{length}
-use borrow.Author.Needs.{needs}
 use Rattle.program_why.proofs.serve.Statement.{statement}
 use Rattle.program_why.proofs.serve.Tie as tie
 
@@ -18,8 +19,16 @@ loop-again c =
     let inv = turned .before .before .before .before .before .before .before .before .before .before .loop .inv in
     (turned .turn .kept .1 .1 .1 .1 .0 ∙ inv .0, turned .turn .kept .1 .1 .1 .1 .1 .0 ∙ inv .1)
 
+less : (n : ℕ) → 0 < n → n - 1 < n
+less n more = omega arith
+
+loop-less : tie.Need-loop-less Inv-loop μ-loop
+loop-less c =
+    let turned = c .before .before .before .before in
+    less _ (turned .before .before .before .before .before .before .before .before .before .loop-test .taken)
+
 pub serve-spec : {M : Type 1} → statement M
 serve-spec =
-    tie.close (tie.spec Inv-loop μ-loop (λ c κs. tt) (λ c. (refl, refl)) (λ c κs. tt) (λ c κs. tt) (λ c κs. tt) (search needs)
-    (search needs) loop-again (λ c. c .before .before .before .loop .inv .0) (λ c. c .before .before .before .loop .inv .1)
+    tie.close (tie.spec Inv-loop μ-loop (λ c κs. tt) (λ c. (refl, refl)) (λ c κs. tt) (λ c κs. tt) (λ c κs. tt) (λ c. omega arith)
+    loop-less loop-again (λ c. c .before .before .before .loop .inv .0) (λ c. c .before .before .before .loop .inv .1)
     (λ c. tt) (λ c. c .before .loop .inv .0) (λ c. c .before .loop .inv .1) (λ c. tt))
