@@ -1,6 +1,9 @@
 // What a record's sentences are made of.
 use crate::hear::Heard;
+use crate::words::NO_RECORD;
+use crate::words::NOTHING;
 use onlooker::past::Seen;
+use records::Found;
 use settings::CONTROL_MODE;
 
 // The three calls.
@@ -8,7 +11,7 @@ pub(crate) const LOAD: u8 = 1;
 
 pub(crate) const CYCLE: u8 = 2;
 
-pub(crate) const TICK: u8 = 3;
+const TICK: u8 = 3;
 
 // The record's number; which call it asked for, and number and place of the answer; the states that the answers showed before it and after it, and whether the one before ran;
 // the note; mode 1 and the loaded limit; the records of the low and of the retry that permit a start, whether one was permitted, the retries counted; the last
@@ -43,14 +46,27 @@ fn wide(number: u16) -> u64 {
     number as u64
 }
 
-pub(crate) fn happened(before: Heard, after: Heard, kind: u8) -> Event {
+// Which call a record asks for; NO_RECORD for what is none, and NOTHING where more may come or there is no more.
+fn kind_of(found: Found, closed: bool) -> u8 {
+    match found {
+        Found::Load => LOAD,
+        Found::Cycle(_) => CYCLE,
+        Found::Tick(_) => TICK,
+        Found::Short => if closed { NO_RECORD } else { NOTHING },
+        Found::Unknown => NO_RECORD,
+        Found::End => NOTHING,
+    }
+}
+
+// What was heard before and what is heard now are the same where no call was made.
+pub(crate) fn happened(before: Heard, after: Heard, found: Found, closed: bool) -> Event {
     let past = before.onlooker.past;
     let memory = after.onlooker.memory;
     let numbers = memory.numbers;
     let seen = after.onlooker.seen;
     Event {
         nth: after.onlooker.past.heard,
-        kind,
+        kind: kind_of(found, closed),
         number: after.answer.number,
         place: after.answer.place,
         from: before.onlooker.memory.shown,

@@ -10,6 +10,7 @@ mod shown;
 mod words;
 mod writer;
 
+use event::happened;
 use hear::hear;
 use hear::silence;
 use places::BEGUN;
@@ -27,7 +28,8 @@ fn serve(input: &mut [u8], output: &mut [u8]) {
     while 0 < turns && !places.ended {
         let found = found_at(input, places);
         let after = hear(heard, found, input, places.taken);
-        places = turn(heard, after, found, places, input, output);
+        let e = happened(heard, after, found, places.closed);
+        places = turn(e, places, input, output);
         heard = after;
         turns -= 1;
     }

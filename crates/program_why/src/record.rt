@@ -2,14 +2,11 @@
 use crate::event::CYCLE;
 use crate::event::Event;
 use crate::event::LOAD;
-use crate::event::TICK;
-use crate::event::happened;
 use crate::happened::left;
 use crate::happened::loaded;
 use crate::happened::refused;
 use crate::happened::start;
 use crate::happened::stop;
-use crate::hear::Heard;
 use crate::places::Places;
 use crate::places::behind;
 use crate::places::least;
@@ -59,18 +56,6 @@ fn put_sentences(output: &mut [u8], at: usize, e: Event) -> usize {
     next
 }
 
-// Which call a record asks for; NO_RECORD for what is none, and NOTHING where more may come or there is no more.
-fn kind_of(found: Found, closed: bool) -> u8 {
-    match found {
-        Found::Load => LOAD,
-        Found::Cycle(_) => CYCLE,
-        Found::Tick(_) => TICK,
-        Found::Short => if closed { NO_RECORD } else { NOTHING },
-        Found::Unknown => NO_RECORD,
-        Found::End => NOTHING,
-    }
-}
-
 fn size_of(kind: u8) -> usize {
     match kind {
         LOAD => LOAD_SIZE,
@@ -95,29 +80,20 @@ fn take_none(places: Places, row: u8, nth: u64, input: &mut [u8], output: &mut [
 }
 
 // A record is taken, and what is to be said of it is put.
-fn take(places: Places, size: usize, e: Event, output: &mut [u8]) -> Places {
+fn take(places: Places, e: Event, output: &mut [u8]) -> Places {
     let next = put_sentences(output, places.next, e);
     let places = Places {
-        taken: behind(places.taken, size),
+        taken: behind(places.taken, size_of(e.kind)),
         next,
         ..places
     };
     with_room(places, output)
 }
 
-// What was heard before the turn and what is heard now are the same where no call was made.
-pub(crate) fn turn(
-    before: Heard,
-    after: Heard,
-    found: Found,
-    places: Places,
-    input: &mut [u8],
-    output: &mut [u8],
-) -> Places {
-    let kind = kind_of(found, places.closed);
-    if (kind == NOTHING) | (kind == NO_RECORD) {
-        let nth = one_more(before.onlooker.past.heard);
-        return take_none(places, kind, nth, input, output);
+// A record or, where there is none, a read.
+pub(crate) fn turn(e: Event, places: Places, input: &mut [u8], output: &mut [u8]) -> Places {
+    if (e.kind == NOTHING) | (e.kind == NO_RECORD) {
+        return take_none(places, e.kind, one_more(e.nth), input, output);
     }
-    take(places, size_of(kind), happened(before, after, kind), output)
+    take(places, e, output)
 }

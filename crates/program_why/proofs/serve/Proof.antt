@@ -16,8 +16,8 @@ abbrev μ-loop : tie.MeasureT-loop
 loop-again : tie.Need-loop-again Inv-loop μ-loop
 loop-again c =
     let turned = c .before .before .before .before in
-    let inv = turned .before .before .before .before .before .before .before .before .before .before .loop .inv in
-    (turned .turn .kept .1 .1 .1 .1 .0 ∙ inv .0, turned .turn .kept .1 .1 .1 .1 .1 .0 ∙ inv .1)
+    let inv = turned .before .before .before .before .before .before .before .before .before .before .before .loop .inv in
+    (turned .turn .kept .1 .1 .0 ∙ inv .0, turned .turn .kept .1 .1 .1 .0 ∙ inv .1)
 
 less : (n : ℕ) → 0 < n → n - 1 < n
 less n more = omega arith
@@ -25,10 +25,10 @@ less n more = omega arith
 loop-less : tie.Need-loop-less Inv-loop μ-loop
 loop-less c =
     let turned = c .before .before .before .before in
-    less _ (turned .before .before .before .before .before .before .before .before .before .loop-test .taken)
+    less _ (turned .before .before .before .before .before .before .before .before .before .before .loop-test .taken)
 
 pub serve-spec : {M : Type 1} → statement M
 serve-spec =
-    tie.close (tie.spec Inv-loop μ-loop (λ c κs. tt) (λ c. (refl, refl)) (λ c κs. tt) (λ c κs. tt) (λ c κs. tt) (λ c. omega arith)
+    tie.close (tie.spec Inv-loop μ-loop (λ c κs. tt) (λ c. (refl, refl)) (λ c κs. tt) (λ c κs. tt) (λ c κs. tt) (λ c κs. tt) (λ c. omega arith)
     loop-less loop-again (λ c. c .before .before .before .loop .inv .0) (λ c. c .before .before .before .loop .inv .1)
     (λ c. tt) (λ c. c .before .loop .inv .0) (λ c. c .before .loop .inv .1) (λ c. tt))
