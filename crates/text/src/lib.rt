@@ -68,9 +68,9 @@ pub fn put_column(lent: &mut [u8], at: usize, number: u64, width: usize) -> usiz
     ensures next { λ r. ⌜ r ≡ behind at (column width number) (now (lent .entry)) ⌝ }
     ensures lent { λ _. ⌜ now (lent .exit) ≡ written at (column width number) (now (lent .entry)) ⌝ }
 {
-    let mut digits = [0u8; WIDEST];
-    let count = io::decimal(number, &mut digits);
-    let next = put(lent, at, &digits[..count]);
+    let mut front = [0u8; WIDEST];
+    let count = io::decimal(number, &mut front);
+    let next = put(lent, at, &front[..count]);
     let left = left_behind(count, width);
     let blanks = [b' '; WIDEST];
     put(lent, next, &blanks[..left])
