@@ -1,28 +1,33 @@
 // What a record's sentences are made of.
-use onlooker::Onlooker;
-use onlooker::past::Past;
+use crate::hear::Heard;
+use crate::words::NO_RECORD;
+use crate::words::NOTHING;
 use onlooker::past::Seen;
+use records::Found;
 use settings::CONTROL_MODE;
 
-// The call: L, C or T, and number and place of its answer.
-pub(crate) struct Told {
-    pub(crate) letter: u8,
-    pub(crate) number: u8,
-    pub(crate) place: u8,
-}
+// The three calls.
+pub(crate) const LOAD: u8 = 1;
 
-// The record's number and what was told of it; the states that the answers showed before it and after it, and whether the one before ran;
-// the note; mode 1; the records of the low and of the retry that permit a start, whether one was permitted, the retries counted; the last
+pub(crate) const CYCLE: u8 = 2;
+
+const TICK: u8 = 3;
+
+// The record's number; which call it asked for, and number and place of the answer; the states that the answers showed before it and after it, and whether the one before ran;
+// the note; mode 1 and the loaded limit; the records of the low and of the retry that permit a start, whether one was permitted, the retries counted; the last
 // low and the last trip before it; the record that lit the live word, and whether dead samples lit bit 15; live word and gates, before
 // and after.
 pub(crate) struct Event {
     pub(crate) nth: u64,
-    pub(crate) told: Told,
+    pub(crate) kind: u8,
+    pub(crate) number: u8,
+    pub(crate) place: u8,
     pub(crate) from: u8,
     pub(crate) to: u8,
     pub(crate) ran: bool,
     pub(crate) seen: Seen,
     pub(crate) timed: bool,
+    pub(crate) limit: u64,
     pub(crate) low: u64,
     pub(crate) retry: u64,
     pub(crate) permitted: bool,
@@ -37,35 +42,50 @@ pub(crate) struct Event {
     pub(crate) gate: u8,
 }
 
-fn permits(past: Past) -> bool {
-    past.loaded & ((past.low != 0) | (past.retry != 0))
+fn wide(number: u16) -> u64 {
+    number as u64
 }
 
-pub(crate) fn happened(before: Onlooker, after: Onlooker, told: Told) -> Event {
-    let remembered = after.memory;
-    let numbers = remembered.numbers;
-    let past = before.past;
-    let scene = after.scene;
-    let seen = after.seen;
+// Which call a record asks for; NO_RECORD for what is none, and NOTHING where more may come or there is no more.
+fn kind_of(found: Found, closed: bool) -> u8 {
+    match found {
+        Found::Load => LOAD,
+        Found::Cycle(_) => CYCLE,
+        Found::Tick(_) => TICK,
+        Found::Short => if closed { NO_RECORD } else { NOTHING },
+        Found::Unknown => NO_RECORD,
+        Found::End => NOTHING,
+    }
+}
+
+// What was heard before and what is heard now are the same where no call was made.
+pub(crate) fn happened(before: Heard, after: Heard, found: Found, closed: bool) -> Event {
+    let past = before.onlooker.past;
+    let memory = after.onlooker.memory;
+    let numbers = memory.numbers;
+    let seen = after.onlooker.seen;
     Event {
-        nth: after.past.heard,
-        told,
-        from: before.memory.shown,
-        to: remembered.shown,
-        ran: before.seen.running,
+        nth: after.onlooker.past.heard,
+        kind: kind_of(found, closed),
+        number: after.answer.number,
+        place: after.answer.place,
+        from: before.onlooker.memory.shown,
+        to: memory.shown,
+        ran: before.onlooker.seen.running,
         seen,
         timed: numbers[CONTROL_MODE] == 1,
+        limit: wide(seen.limit),
         low: past.low,
         retry: past.retry,
-        permitted: permits(past),
-        retries: after.past.retries,
-        last_low: before.scene.low,
-        last_trip: before.scene.trip,
-        lit: scene.lit,
-        dead: scene.dead,
-        old_live: before.scene.live,
-        live: scene.live,
-        old_gate: before.scene.gate,
-        gate: scene.gate,
+        permitted: past.loaded & ((past.low != 0) | (past.retry != 0)),
+        retries: after.onlooker.past.retries,
+        last_low: before.onlooker.scene.low,
+        last_trip: before.onlooker.scene.trip,
+        lit: after.onlooker.scene.lit,
+        dead: after.onlooker.scene.dead,
+        old_live: before.onlooker.scene.live,
+        live: after.onlooker.scene.live,
+        old_gate: before.onlooker.scene.gate,
+        gate: after.onlooker.scene.gate,
     }
 }

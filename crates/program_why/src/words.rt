@@ -1,180 +1,220 @@
-// The words for everything, in those of document 01: the sixteen bits, the gates, the refusals with their places. Blanks fill each up to
-// one width, and are not put.
-use text::put;
+// Every word that the program says, in those of document 01. A row's number is its line, from 0 on.
+use crate::event::CYCLE;
+use crate::writer::put_row;
 ghost use Prim.Native.Nat.{_+_, _≤_};
 
-const WIDTH: usize = 52;
+// The sentences. `@` stands for the record's number, `#` and `$` for the numbers that a sentence tells; behind a colon at the end comes
+// a word, or the bits of a live word. The rows of the refusals have the calls' numbers, and an exit's row has behind it the one that says
+// that a live cause stood.
+const SENTENCES: [u8; 1226] = *b"
+record @  load refused: number #, place $:
+record @  cycle refused: number #, place $:
+record @  tick refused: number #, place $:
+record @  refused: number 6, place 0: unknown or short record; the run ends
+record @  loaded: mode 0, no timed retries
+record @  loaded: mode 1, # retry allowed
+record @  loaded: mode 1, # retries allowed
+record @  FAULT left: clear
+record @  FAULT left: clear; a live cause stood
+record @  FAULT left: timed retry # of $; no live cause stood
+record @  FAULT left: timed retry # of $; a live cause stood
+record @  FAULT left: neither clear nor timed retry; no live cause stood
+record @  FAULT left: neither clear nor timed retry; a live cause stood
+record @  a starting or running state entered without a start
+record @  start: not permitted
+record @  start: permitted by the low command at record #
+record @  start: permitted by the timed retry at record #; no low was held since the trip
+record @  start: permitted by the timed retry at record #; the last low was held before it, at record $
+record @  stop: low command
+record @  stop: load
+record @  stop: without a low command
+record @  trip:
+record @  trip by record #:
+record @  trip: no live bit is shown
+record @  live:
+record @  gates:
+";
 
-// The bits of the live word; bit 15 by dead samples.
-const BITS: [[u8; WIDTH]; 16] = [
-    *b"gate kill is 1                                      ",
-    *b"VdcRaw above CriticalOvLevel                        ",
-    *b"VdcFilt above VdcOvLevel                            ",
-    *b"VdcFilt below VdcLvLevel                            ",
-    *b"Flx_M out of 512..8192 in eight slots in a row      ",
-    *b"a bit without a meaning                             ",
-    *b"temperature above Tshutdown                         ",
-    *b"rotor locked: TrqRef at MotorLim, speed MinSpd..4095",
-    *b"a bit without a meaning                             ",
-    *b"a bit without a meaning                             ",
-    *b"a bit without a meaning                             ",
-    *b"a bit without a meaning                             ",
-    *b"a bit without a meaning                             ",
-    *b"a bit without a meaning                             ",
-    *b"no new Hall pattern for HallTimeoutPeriod           ",
-    *b"two dead Hall samples                               ",
-];
+pub(crate) const NOTHING: u8 = 0;
 
-// Bit 15 again.
-const STRAYS: [u8; WIDTH] = *b"three stray Hall samples                            ";
+pub(crate) const NO_RECORD: u8 = 4;
 
-// What the gates do.
-const GATES: [[u8; WIDTH]; 4] = [
-    *b"off                                                 ",
-    *b"charge                                              ",
-    *b"drive                                               ",
-    *b"all low sides on                                    ",
-];
+pub(crate) const LOADED: u8 = 5;
 
-// What a setting may be, by its place; place 0 is all of them.
-const SETTINGS: [[u8; WIDTH]; 25] = [
-    *b"settings are 24 numbers                             ",
-    *b"ControlMode is 0..1                                 ",
-    *b"FaultEnable is any 16-bit number                    ",
-    *b"VdcOvLevel is 0..4095                               ",
-    *b"VdcLvLevel is 0..4095, below VdcOvLevel             ",
-    *b"CriticalOvLevel is 0..4095, not below VdcOvLevel    ",
-    *b"Tshutdown is 0..4095                                ",
-    *b"RotorLockTime is 1..65535                           ",
-    *b"FluxFaultTime is 1..65535                           ",
-    *b"HallTimeoutPeriod is 1..65535                       ",
-    *b"HallAngleOffset is any 16-bit number                ",
-    *b"MinSpd is 0..16383                                  ",
-    *b"SpdRampRate is 0..32767                             ",
-    *b"MotorLim is 1..4095                                 ",
-    *b"OffsetPsc is 0..7                                   ",
-    *b"BtsChargeTime is any 16-bit number                  ",
-    *b"TCatchSpin is any 16-bit number                     ",
-    *b"DirectStartThr is 0..16383                          ",
-    *b"IS_Pulses is 0..255                                 ",
-    *b"ParkTime is any 16-bit number                       ",
-    *b"OpenLoopRamp is any 16-bit number                   ",
-    *b"CmdStart is 0..4095                                 ",
-    *b"CmdStop is 0..4095, below CmdStart                  ",
-    *b"CmdGain is any 16-bit number                        ",
-    *b"RetryLimit is 0..100                                ",
-];
+pub(crate) const LOADED_WITH_RETRY: u8 = 6;
 
-// What a field of a cycle may be, by its place; from 1.
-const CYCLE_FIELDS: [[u8; WIDTH]; 4] = [
-    *b"no field                                            ",
-    *b"pattern is 0..7                                     ",
-    *b"first is 0..4095                                    ",
-    *b"second is 0..4095                                   ",
-];
+pub(crate) const LOADED_WITH_RETRIES: u8 = 7;
 
-// What a field of a tick may be, by its place; from 1.
-const TICK_FIELDS: [[u8; WIDTH]; 12] = [
-    *b"no field                                            ",
-    *b"gate_kill is 0..1                                   ",
-    *b"clear is 0..1                                       ",
-    *b"command is 0..1                                     ",
-    *b"control is 0..4095                                  ",
-    *b"VdcRaw is 0..4095                                   ",
-    *b"VdcFilt is 0..4095                                  ",
-    *b"temperature is 0..4095                              ",
-    *b"Flx_M is 0..65535                                   ",
-    *b"TrqRef is -4095..4095                               ",
-    *b"speed is -32767..32767                              ",
-    *b"target is -32767..32767                             ",
-];
+pub(crate) const LEFT_BY_CLEAR: u8 = 8;
 
-// What document 01 has no words for.
-const UNKNOWN: [u8; WIDTH] = *b"not in document 01                                  ";
+pub(crate) const LEFT_BY_RETRY: u8 = 10;
 
-// How long a word is without the blanks behind it.
-fn trimmed(word: [u8; WIDTH]) -> usize
-    ensures { λ r. ⌜ r ≤ 52 ⌝ }
+pub(crate) const LEFT: u8 = 12;
+
+pub(crate) const BEGAN: u8 = 14;
+
+pub(crate) const STARTED: u8 = 15;
+
+pub(crate) const STARTED_BY_LOW: u8 = 16;
+
+pub(crate) const STARTED_BY_RETRY: u8 = 17;
+
+pub(crate) const STARTED_BY_RETRY_NOT_LOW: u8 = 18;
+
+pub(crate) const STOPPED_BY_LOW: u8 = 19;
+
+pub(crate) const STOPPED_BY_LOAD: u8 = 20;
+
+pub(crate) const STOPPED: u8 = 21;
+
+pub(crate) const TRIPPED: u8 = 22;
+
+pub(crate) const TRIPPED_BY_EARLIER: u8 = 23;
+
+pub(crate) const TRIPPED_IN_THE_DARK: u8 = 24;
+
+pub(crate) const LIVE: u8 = 25;
+
+pub(crate) const GATES: u8 = 26;
+
+pub(crate) fn put_line(
+    output: &mut [u8],
+    at: usize,
+    row: u8,
+    nth: u64,
+    first: u64,
+    second: u64,
+) -> usize {
+    put_row(output, at, &SENTENCES, row, nth, first, second)
+}
+
+// What may stand behind a sentence, each with its blank in front: the bits of the live word, bit 15 once more; what the gates do; what a
+// setting may be, by its place, and place 0 is all of them; what a field of a cycle and of a tick may be, by its place from 1; the
+// refusals that have no place; what document 01 has no words for.
+const WORDS: [u8; 1827] = *b"
+ gate kill is 1 (bit 0)
+ VdcRaw above CriticalOvLevel (bit 1)
+ VdcFilt above VdcOvLevel (bit 2)
+ VdcFilt below VdcLvLevel (bit 3)
+ Flx_M out of 512..8192 in eight slots in a row (bit 4)
+ a bit without a meaning (bit 5)
+ temperature above Tshutdown (bit 6)
+ rotor locked: TrqRef at MotorLim, speed MinSpd..4095 (bit 7)
+ a bit without a meaning (bit 8)
+ a bit without a meaning (bit 9)
+ a bit without a meaning (bit 10)
+ a bit without a meaning (bit 11)
+ a bit without a meaning (bit 12)
+ a bit without a meaning (bit 13)
+ no new Hall pattern for HallTimeoutPeriod (bit 14)
+ two dead Hall samples (bit 15)
+ three stray Hall samples (bit 15)
+ off
+ charge
+ drive
+ all low sides on
+ settings are 24 numbers
+ ControlMode is 0..1
+ FaultEnable is any 16-bit number
+ VdcOvLevel is 0..4095
+ VdcLvLevel is 0..4095, below VdcOvLevel
+ CriticalOvLevel is 0..4095, not below VdcOvLevel
+ Tshutdown is 0..4095
+ RotorLockTime is 1..65535
+ FluxFaultTime is 1..65535
+ HallTimeoutPeriod is 1..65535
+ HallAngleOffset is any 16-bit number
+ MinSpd is 0..16383
+ SpdRampRate is 0..32767
+ MotorLim is 1..4095
+ OffsetPsc is 0..7
+ BtsChargeTime is any 16-bit number
+ TCatchSpin is any 16-bit number
+ DirectStartThr is 0..16383
+ IS_Pulses is 0..255
+ ParkTime is any 16-bit number
+ OpenLoopRamp is any 16-bit number
+ CmdStart is 0..4095
+ CmdStop is 0..4095, below CmdStart
+ CmdGain is any 16-bit number
+ RetryLimit is 0..100
+ no field
+ pattern is 0..7
+ first is 0..4095
+ second is 0..4095
+ no field
+ gate_kill is 0..1
+ clear is 0..1
+ command is 0..1
+ control is 0..4095
+ VdcRaw is 0..4095
+ VdcFilt is 0..4095
+ temperature is 0..4095
+ Flx_M is 0..65535
+ TrqRef is -4095..4095
+ speed is -32767..32767
+ target is -32767..32767
+ in IDLE there are no settings: load first
+ outside IDLE and STOP: stop or clear first
+ no number of document 01
+ not in document 01
+";
+
+pub(crate) const NO_WORD: u8 = 0;
+
+const BITS: u8 = 1;
+
+const STRAYS: u8 = 17;
+
+const GATE_WORDS: u8 = 18;
+
+const SETTINGS: u8 = 22;
+
+const CYCLE_FIELDS: u8 = 47;
+
+const TICK_FIELDS: u8 = 51;
+
+pub(crate) const NO_SETTINGS: u8 = 63;
+
+pub(crate) const WRONG_STATE: u8 = 64;
+
+pub(crate) const NO_NUMBER: u8 = 65;
+
+const UNKNOWN: u8 = 66;
+
+// A row of several that follow each other.
+fn row_of(from: u8, number: u8, count: u8) -> u8
+    requires { ⌜ from + count ≤ 66 ⌝ }
 {
-    let mut end: usize = 0;
-    let mut i: usize = 0;
-    while i < WIDTH {
-        end = behind(word[i], i, end);
-        i += 1;
+    if number < count {
+        from + number
+    } else {
+        UNKNOWN
     }
-    end
 }
 
-// The end of a word, behind its last byte that is no blank.
-fn behind(byte: u8, at: usize, end: usize) -> usize
-    requires { ⌜ at ≤ 51 ⌝ }
-    requires { ⌜ end ≤ at ⌝ }
-    ensures { λ r. ⌜ r ≤ at + 1 ⌝ }
-{
-    if byte == b' ' {
-        return end;
-    }
-    at + 1
-}
-
-fn put_word(output: &mut [u8], at: usize, word: [u8; WIDTH]) -> usize {
-    let end = trimmed(word);
-    put(output, at, &word[..end])
-}
-
-fn bit(number: u8, dead: bool) -> [u8; WIDTH] {
+pub(crate) fn bit_word(number: u8, dead: bool) -> u8 {
     if (number == 15) & !dead {
         return STRAYS;
     }
-    if number < 16 {
-        return BITS[number as usize];
+    row_of(BITS, number, 16)
+}
+
+pub(crate) fn gate_word(gate: u8) -> u8 {
+    row_of(GATE_WORDS, gate, 4)
+}
+
+pub(crate) fn setting_word(place: u8) -> u8 {
+    row_of(SETTINGS, place, 25)
+}
+
+pub(crate) fn field_word(kind: u8, place: u8) -> u8 {
+    if kind == CYCLE {
+        return row_of(CYCLE_FIELDS, place, 4);
     }
-    UNKNOWN
+    row_of(TICK_FIELDS, place, 12)
 }
 
-fn gate(number: u8) -> [u8; WIDTH] {
-    if number < 4 {
-        return GATES[number as usize];
-    }
-    UNKNOWN
-}
-
-fn setting(place: u8) -> [u8; WIDTH] {
-    if place < 25 {
-        return SETTINGS[place as usize];
-    }
-    UNKNOWN
-}
-
-fn cycle_field(place: u8) -> [u8; WIDTH] {
-    if place < 4 {
-        return CYCLE_FIELDS[place as usize];
-    }
-    UNKNOWN
-}
-
-fn tick_field(place: u8) -> [u8; WIDTH] {
-    if place < 12 {
-        return TICK_FIELDS[place as usize];
-    }
-    UNKNOWN
-}
-
-pub(crate) fn put_bit(output: &mut [u8], at: usize, number: u8, dead: bool) -> usize {
-    put_word(output, at, bit(number, dead))
-}
-
-pub(crate) fn put_gate(output: &mut [u8], at: usize, number: u8) -> usize {
-    put_word(output, at, gate(number))
-}
-
-pub(crate) fn put_setting(output: &mut [u8], at: usize, place: u8) -> usize {
-    put_word(output, at, setting(place))
-}
-
-pub(crate) fn put_field(output: &mut [u8], at: usize, letter: u8, place: u8) -> usize {
-    if letter == b'C' {
-        return put_word(output, at, cycle_field(place));
-    }
-    put_word(output, at, tick_field(place))
+pub(crate) fn put_word(output: &mut [u8], at: usize, row: u8) -> usize {
+    put_row(output, at, &WORDS, row, 0, 0, 0)
 }

@@ -13,3 +13,6 @@ put-decimal κs given r s p q = same (p .0 ∙⁻¹ q .0) (ap (λ (bytes : List 
 
 pub put-signed : OneReply promises.put_signed.ended promises.put_signed.Reads.Post
 put-signed κs given r s p q = same (p .0 ∙⁻¹ q .0) (ap (λ (bytes : List ℕ). (bytes, (tt, (tt, tt)))) (p .1 ∙⁻¹ q .1))
+
+pub put-column : OneReply promises.put_column.ended promises.put_column.Reads.Post
+put-column κs given r s p q = same (p .0 ∙⁻¹ q .0) (ap (λ (bytes : List ℕ). (bytes, (tt, (tt, (tt, tt))))) (p .1 ∙⁻¹ q .1))

@@ -1,31 +1,34 @@
--- `serve` is safe and ends: both buffers keep their length, what is held stays within its buffer, and the reads fall.
+-- `serve` ends, since its turns fall; both buffers keep their length.
 use mathlib.Core.Path.{_≡_, refl, _∙_}
-use Prim.Native.Nat.{_≤_}
+use Prim.Native.Nat.{ℕ, _-_, _<_}
 use native.Mathlib.Omega.{arith}
 use lib.ListN.{length}
-use borrow.Author.Needs.{needs}
 use Rattle.program_why.proofs.serve.Statement.{statement}
 use Rattle.program_why.proofs.serve.Tie as tie
 
 abbrev Inv-loop : tie.InvT-loop
-Inv-loop input₀ output₀ reads₀ held₀ input output reads held =
-    (length input ≡ length input₀) × (length output ≡ length output₀) × (held .count ≤ length input)
+Inv-loop input₀ output₀ turns₀ heard₀ places₀ input output turns heard places =
+    (length input ≡ length input₀) × (length output ≡ length output₀)
 
 abbrev μ-loop : tie.MeasureT-loop
-μ-loop input₀ output₀ reads₀ held₀ input output reads held = reads
+μ-loop input₀ output₀ turns₀ heard₀ places₀ input output turns heard places = turns
 
 loop-again : tie.Need-loop-again Inv-loop μ-loop
 loop-again c =
-    let read-on = c .before .before .before .before .read-on in
-    let inv = c .before .before .before .before .before .before .before .before .before .loop .inv in (
-      read-on .kept .1 .0 ∙ inv .0,
-      read-on .kept .1 .1 .0 ∙ inv .1,
-      omega (arith, read-on .ensures, read-on .kept .1 .0),
-    )
+    let turned = c .before .before .before .before in
+    let inv = turned .before .before .before .before .before .before .before .before .before .before .before .loop .inv in
+    (turned .turn .kept .1 .1 .0 ∙ inv .0, turned .turn .kept .1 .1 .1 .0 ∙ inv .1)
+
+less : (n : ℕ) → 0 < n → n - 1 < n
+less n more = omega arith
+
+loop-less : tie.Need-loop-less Inv-loop μ-loop
+loop-less c =
+    let turned = c .before .before .before .before in
+    less _ (turned .before .before .before .before .before .before .before .before .before .before .loop-test .taken)
 
 pub serve-spec : {M : Type 1} → statement M
 serve-spec =
-    tie.close (tie.spec Inv-loop μ-loop (search needs) (search needs)
-    (λ c. (refl, refl, omega arith))
-    (search needs) (search needs) (search needs) loop-again (search needs) (search needs) (search needs)
-    (search needs) (search needs) (search needs))
+    tie.close (tie.spec Inv-loop μ-loop (λ c κs. tt) (λ c. (refl, refl)) (λ c κs. tt) (λ c κs. tt) (λ c κs. tt) (λ c κs. tt) (λ c. omega arith)
+    loop-less loop-again (λ c. c .before .before .before .loop .inv .0) (λ c. c .before .before .before .loop .inv .1)
+    (λ c. tt) (λ c. c .before .loop .inv .0) (λ c. c .before .loop .inv .1) (λ c. tt))

@@ -1,0 +1,99 @@
+// One turn of the program: what stands at the front of the input, and what is said of it.
+use crate::event::CYCLE;
+use crate::event::Event;
+use crate::event::LOAD;
+use crate::happened::left;
+use crate::happened::loaded;
+use crate::happened::refused;
+use crate::happened::start;
+use crate::happened::stop;
+use crate::places::Places;
+use crate::places::behind;
+use crate::places::least;
+use crate::places::refilled;
+use crate::places::with_room;
+use crate::sentence::Sentence;
+use crate::sentence::plain;
+use crate::sentence::put_sentence;
+use crate::shown::gates;
+use crate::shown::live;
+use crate::shown::trip;
+use crate::words::NO_RECORD;
+use crate::words::NOTHING;
+use records::CYCLE_SIZE;
+use records::Found;
+use records::LOAD_SIZE;
+use records::TICK_SIZE;
+use records::read;
+
+// What stands behind the bytes that were taken.
+pub(crate) fn found_at(input: &[u8], places: Places) -> Found {
+    let end = least(places.filled, input.len());
+    read(&input[..end], places.taken)
+}
+
+// What can be said of a record, in the order in which it is said.
+fn sentence(e: Event, place: u8) -> Sentence {
+    match place {
+        0 => refused(e),
+        1 => loaded(e),
+        2 => left(e),
+        3 => start(e),
+        4 => stop(e),
+        5 => trip(e),
+        6 => live(e),
+        _ => gates(e),
+    }
+}
+
+fn put_sentences(output: &mut [u8], at: usize, e: Event) -> usize {
+    let mut next = at;
+    let mut place: u8 = 0;
+    while place < 8 {
+        next = put_sentence(output, next, e.nth, sentence(e, place));
+        place += 1;
+    }
+    next
+}
+
+fn size_of(kind: u8) -> usize {
+    match kind {
+        LOAD => LOAD_SIZE,
+        CYCLE => CYCLE_SIZE,
+        _ => TICK_SIZE,
+    }
+}
+
+fn one_more(count: u64) -> u64 {
+    if count < u64::MAX { count + 1 } else { count }
+}
+
+// No record is taken. What is none ends the run, and so does the end of the input.
+fn take_none(places: Places, row: u8, nth: u64, input: &mut [u8], output: &mut [u8]) -> Places {
+    let next = put_sentence(output, places.next, nth, plain(row));
+    let places = Places {
+        next,
+        ended: places.closed | (row == NO_RECORD),
+        ..places
+    };
+    refilled(places, input, output)
+}
+
+// A record is taken, and what is to be said of it is put.
+fn take(places: Places, e: Event, output: &mut [u8]) -> Places {
+    let next = put_sentences(output, places.next, e);
+    let places = Places {
+        taken: behind(places.taken, size_of(e.kind)),
+        next,
+        ..places
+    };
+    with_room(places, output)
+}
+
+// A record or, where there is none, a read.
+pub(crate) fn turn(e: Event, places: Places, input: &mut [u8], output: &mut [u8]) -> Places {
+    if (e.kind == NOTHING) | (e.kind == NO_RECORD) {
+        return take_none(places, e.kind, one_more(e.nth), input, output);
+    }
+    take(places, e, output)
+}
