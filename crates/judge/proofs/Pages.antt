@@ -7,10 +7,11 @@ use mathlib.Core.Path.{_≡_, refl, ap, sym, _∙_}
 use mathlib.Core.Bool.{Bool}
 use mathlib.Core.List.{List, [], _∷_, _++_, map}
 use lib.Dec.{eqb, ltb}
-use lib.ListN.{length, getD, take, drop, length-append}
+use lib.ListN.{length, getD, take, drop, length-append, length-replicate}
 use lib.Seq.{take-at}
 use Rattle.bytes.specs.Bytes.{indexOf, slice}
 use Rattle.text.specs.Put.{behind, written}
+use Rattle.text.specs.Decimal.{column}
 use Rattle.text.proofs.Chains.{length-written, behind-behind, written-written, behind-front, written-front}
 use Rattle.text.proofs.Decimals.{at-most-twenty}
 use Rattle.numbers.proofs.Tests.{by-test}
@@ -18,7 +19,7 @@ use Rattle.judge.specs.Pages.{pageSize, blankPage, more, barred}
 use Rattle.judge.specs.Judged.{missing, leftOver, unreadable, refused, numberOf}
 use Rattle.judge.specs.Sentences.{differsWords, gatesWords, exitWords, retriesWords}
 use Rattle.judge.specs.Sentences.{missingWords, leftOverWords, unreadableWords, refusedWords}
-use Rattle.judge.specs.Sentences.{rows, sentence, gap, placed, about, counting, differing, broken, breaking, ending, said}
+use Rattle.judge.specs.Sentences.{rows, sentence, placed, about, counting, differing, broken, breaking, ending, said}
 use Rattle.judge.specs.declared.Judge.{Judge}
 use Rattle.judge.specs.declared.sentences.Page.{Page}
 use Rattle.onlooker.specs.declared.past.Rules.{Rules}
@@ -67,17 +68,13 @@ row-is row inside =
 abbrev Within : ℕ → List ℕ → Type 0
 Within most words = length words ≤ most
 
-gap-within : (number : ℕ) → Within 6 (gap number)
-unfolding gap
-gap-within number =
-    by-test (Within 6) (ltb number 10) (λ _. omega arith)
-    (λ _. by-test (Within 6) (ltb number 100) (λ _. omega arith)
-    (λ _. by-test (Within 6) (ltb number 1000) (λ _. omega arith)
-    (λ _. by-test (Within 6) (ltb number 10000) (λ _. omega arith) (λ _. omega arith))))
+column-within : (number : ℕ) → Within 20 (column 5 number)
+unfolding column
+column-within number = simp (length-append, length-replicate) (omega (arith, at-most-twenty number))
 
 about-within : (number : ℕ) (words : List ℕ) → Within 120 words → Within 153 (about number words)
 unfolding about placed
-about-within number words short = simp length-append (omega (arith, at-most-twenty number, gap-within number))
+about-within number words short = simp length-append (omega (arith, column-within number))
 
 counting-within : (heard : ℕ) → Within 34 (counting heard)
 unfolding counting

@@ -1,37 +1,17 @@
 -- The sentences case by case, as the code comes to them.
-use Prim.Native.Nat.{ℕ, _≤_, _<_}
+use Prim.Native.Nat.{ℕ}
 use mathlib.Core.Path.{_≡_}
 use mathlib.Core.Bool.{Bool, true, false}
 use mathlib.Core.List.{List, [], _++_}
-use borrow.Author.Tests.{lt-ltb, le-ltb, ne-eqb}
+use borrow.Author.Tests.{ne-eqb}
 use Rattle.text.specs.Text.{text}
 use Rattle.onlooker.specs.declared.past.Rules.{Rules}
 use Rattle.judge.specs.Judged.{missing, leftOver, unreadable, refused}
 use Rattle.judge.specs.Sentences.{sameWords, differsWords, foundWords, keptWords, gatesWords, exitWords, retriesWords}
 use Rattle.judge.specs.Sentences.{missingWords, leftOverWords, unreadableWords, refusedWords}
-use Rattle.judge.specs.Sentences.{gap, about, differing, broken, breaking, ending}
+use Rattle.judge.specs.Sentences.{about, differing, broken, breaking, ending}
 
 module _ (n : ℕ) where
-  pub gap-1 : n < 10 → gap n ≡ text "      "
-  unfolding gap
-  gap-1 a = rw (lt-ltb n 10 a)
-
-  pub gap-2 : 10 ≤ n → n < 100 → gap n ≡ text "     "
-  unfolding gap
-  gap-2 a b = rw (le-ltb n 10 a, lt-ltb n 100 b)
-
-  pub gap-3 : 10 ≤ n → 100 ≤ n → n < 1000 → gap n ≡ text "    "
-  unfolding gap
-  gap-3 a b c = rw (le-ltb n 10 a, le-ltb n 100 b, lt-ltb n 1000 c)
-
-  pub gap-4 : 10 ≤ n → 100 ≤ n → 1000 ≤ n → n < 10000 → gap n ≡ text "   "
-  unfolding gap
-  gap-4 a b c d = rw (le-ltb n 10 a, le-ltb n 100 b, le-ltb n 1000 c, lt-ltb n 10000 d)
-
-  pub gap-5 : 10 ≤ n → 100 ≤ n → 1000 ≤ n → 10000 ≤ n → gap n ≡ text "  "
-  unfolding gap
-  gap-5 a b c d = rw (le-ltb n 10 a, le-ltb n 100 b, le-ltb n 1000 c, le-ltb n 10000 d)
-
   pub same-lines : (expected found : List ℕ) → n ≡ 0
       → differing n expected found ≡ sameWords
   unfolding differing

@@ -3,10 +3,10 @@
 use Prim.Native.Nat.{ℕ}
 use mathlib.Core.Bool.{Bool, cond}
 use mathlib.Core.List.{List, [], _∷_, _++_}
-use lib.Dec.{eqb, ltb}
+use lib.Dec.{eqb}
 use lib.ListN.{getD}
 use Rattle.text.specs.Text.{text}
-use Rattle.text.specs.Decimal.{decimal}
+use Rattle.text.specs.Decimal.{decimal, column}
 use Rattle.onlooker.specs.declared.past.Rules.{Rules}
 use Rattle.judge.specs.Judged.{missing, leftOver, unreadable, refused, numberOf}
 use Rattle.judge.specs.declared.Judge.{Judge}
@@ -61,14 +61,8 @@ abbrev pub sentence : ℕ → List ℕ
 sentence row = getD rows row []
 
 -- the record's number, in a column of five and two blanks
-unfoldable pub gap : ℕ → List ℕ
-gap number =
-    cond (ltb number 10) (text "      ")
-    (cond (ltb number 100) (text "     ")
-    (cond (ltb number 1000) (text "    ") (cond (ltb number 10000) (text "   ") (text "  "))))
-
 unfoldable pub placed : ℕ → List ℕ
-placed number = text "record " ++ decimal number ++ gap number
+placed number = text "record " ++ column 5 number ++ text "  "
 
 -- a sentence about a record
 unfoldable pub about : ℕ → List ℕ → List ℕ

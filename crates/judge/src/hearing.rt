@@ -13,6 +13,7 @@ use records::Found;
 use records::LOAD_SIZE;
 use records::TICK_SIZE;
 use records::settings_at;
+use settings::SETTING_COUNT;
 ghost use mathlib.Core.Path.{_≡_};
 ghost use lib.ListN.{drop};
 ghost use Rattle.drive.specs.AnyCall.{loads, cycles, ticks};
@@ -40,7 +41,7 @@ fn nothing(drive: Drive, onlooker: Onlooker) -> Heard
     }
 }
 
-fn load(drive: Drive, onlooker: Onlooker, answer: Answer, numbers: [u16; 24]) -> Heard
+fn load(drive: Drive, onlooker: Onlooker, answer: Answer, numbers: [u16; SETTING_COUNT]) -> Heard
     ensures { λ r. ⌜ r ≡ heardCall drive onlooker answer (loads numbers) ⌝ }
 {
     Heard {

@@ -24,12 +24,13 @@ use bytes::scan::find;
 use onlooker::past::Rules;
 use report::LINE_LENGTH;
 use text::put;
+use text::put_column;
 use text::put_decimal;
 ghost use mathlib.Core.Path.{_≡_};
 ghost use Prim.Native.Nat.{_<_};
 ghost use Rattle.text.specs.Put.{behind, written};
 ghost use Rattle.judge.specs.Pages.{blankPage, more};
-ghost use Rattle.judge.specs.Sentences.{gap, placed, sentence, about, counting, differing, broken, breaking, ending, said};
+ghost use Rattle.judge.specs.Sentences.{placed, sentence, about, counting, differing, broken, breaking, ending, said};
 
 // Bytes for all that the judge can say, whatever it is: `said-within` of proofs/Pages.antt.
 pub const VERDICT_SIZE: usize = 1024;
@@ -40,32 +41,13 @@ struct Page {
     size: usize,
 }
 
-fn put_gap(lent: &mut [u8], at: usize, number: u64) -> usize
-    ensures next { λ r. ⌜ r ≡ behind at (gap number) (now (lent .entry)) ⌝ }
-    ensures lent { λ _. ⌜ now (lent .exit) ≡ written at (gap number) (now (lent .entry)) ⌝ }
-{
-    if number < 10 {
-        return put(lent, at, b"      ");
-    }
-    if number < 100 {
-        return put(lent, at, b"     ");
-    }
-    if number < 1000 {
-        return put(lent, at, b"    ");
-    }
-    if number < 10000 {
-        return put(lent, at, b"   ");
-    }
-    put(lent, at, b"  ")
-}
-
 fn put_placed(lent: &mut [u8], at: usize, number: u64) -> usize
     ensures next { λ r. ⌜ r ≡ behind at (placed number) (now (lent .entry)) ⌝ }
     ensures lent { λ _. ⌜ now (lent .exit) ≡ written at (placed number) (now (lent .entry)) ⌝ }
 {
     let at = put(lent, at, b"record ");
-    let at = put_decimal(lent, at, number);
-    put_gap(lent, at, number)
+    let at = put_column(lent, at, number, 5);
+    put(lent, at, b"  ")
 }
 
 fn say_line(page: Page, line: [u8; LINE_LENGTH]) -> Page
