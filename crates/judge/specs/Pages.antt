@@ -1,8 +1,8 @@
 -- The page on which the code puts sentence after sentence, and its table of their words.
-use Prim.Native.Nat.{ℕ}
+use Prim.Native.Nat.{ℕ, _-_}
 use Prim.Native.Char.{code}
 use mathlib.Core.List.{List, [], _∷_, _++_}
-use lib.ListN.{take, replicate}
+use lib.ListN.{length, replicate}
 use Rattle.text.specs.Put.{behind, written}
 use Rattle.judge.specs.declared.sentences.Page.{Page}
 
@@ -19,4 +19,4 @@ more page words = record { bytes = written (page .size) words (page .bytes); siz
 
 -- words as a row of the table: a bar behind them, and blanks up to its width
 abbrev pub barred : List ℕ → List ℕ
-barred words = take 120 (words ++ (code "|" ∷ []) ++ replicate 120 (code " "))
+barred words = words ++ (code "|" ∷ []) ++ replicate (119 - length words) (code " ")
