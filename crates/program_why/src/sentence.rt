@@ -1,4 +1,5 @@
 // A sentence as data, and its one writer.
+use crate::words::COMMA;
 use crate::words::NO_WORD;
 use crate::words::NOTHING;
 use crate::words::bit_word;
@@ -51,11 +52,11 @@ fn put_lowest(output: &mut [u8], at: usize, rest: u16, number: u8, dead: bool) -
     if rest % 2 == 0 {
         return at;
     }
-    let at = put_word(output, at, bit_word(number, dead));
+    let next = put_word(output, at, bit_word(number, dead));
     if rest == 1 {
-        return at;
+        return next;
     }
-    put(output, at, b",")
+    put_word(output, next, COMMA)
 }
 
 // The bits of a live word, the lowest first.
