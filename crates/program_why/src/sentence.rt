@@ -76,8 +76,8 @@ pub(crate) fn put_sentence(output: &mut [u8], at: usize, nth: u64, s: Sentence) 
     if s.row == NOTHING {
         return at;
     }
-    let at = put_line(output, at, s.row, nth, s.first, s.second);
-    let at = put_word(output, at, s.word);
-    let at = put_bits(output, at, s.live, s.dead);
-    put(output, at, b"\n")
+    let mut next = put_line(output, at, s.row, nth, s.first, s.second);
+    next = put_word(output, next, s.word);
+    next = put_bits(output, next, s.live, s.dead);
+    put(output, next, b"\n")
 }
