@@ -13,10 +13,10 @@ pub(crate) const CYCLE: u8 = 2;
 
 const TICK: u8 = 3;
 
-// The record's number; which call it asked for, and number and place of the answer; the states that the answers showed before it and after it, and whether the one before ran;
-// the note; mode 1 and the loaded limit; the records of the low and of the retry that permit a start, whether one was permitted, the retries counted; the last
-// low and the last trip before it; the record that lit the live word, and whether dead samples lit bit 15; live word and gates, before
-// and after.
+// The record's number; which call it asked for, and number and place of the answer; the states that the answers showed before it and
+// after it, and whether the one before ran; the note; mode 1 and the loaded limit; the records of the low and of the retry that permit
+// a start, whether one was permitted, the retries counted; the last low and the last trip before it; the record that lit the live word,
+// and whether dead samples lit bit 15; live word and gates, before and after.
 pub(crate) struct Event {
     pub(crate) nth: u64,
     pub(crate) kind: u8,

@@ -59,25 +59,28 @@ pub(crate) fn loaded(e: Event) -> Sentence {
 }
 
 // The row of an exit, or the one behind it, which says that a live cause stood.
-fn exit_row(row: u8, stood: bool) -> u8
+fn exit_row(e: Event, row: u8) -> u8
     requires { ⌜ row ≤ 12 ⌝ }
 {
-    if stood { row + 1 } else { row }
+    if e.seen.cause_stood | e.seen.live_shown {
+        row + 1
+    } else {
+        row
+    }
 }
 
 // FAULT was left: the retry is counted as the rule counts.
 pub(crate) fn left(e: Event) -> Sentence {
-    let stood = e.seen.cause_stood | e.seen.live_shown;
     if !e.seen.exited {
         return plain(NOTHING);
     }
     if e.seen.clear {
-        return plain(exit_row(LEFT_BY_CLEAR, stood));
+        return plain(exit_row(e, LEFT_BY_CLEAR));
     }
     if e.seen.due {
-        return numbered(exit_row(LEFT_BY_RETRY, stood), e.retries, e.limit);
+        return numbered(exit_row(e, LEFT_BY_RETRY), e.retries, e.limit);
     }
-    plain(exit_row(LEFT, stood))
+    plain(exit_row(e, LEFT))
 }
 
 // By what a start was permitted: by a low or, failing that, by a timed retry. A low that was held in FAULT permits nothing.
@@ -105,8 +108,12 @@ pub(crate) fn start(e: Event) -> Sentence {
 }
 
 // A starting or running state was left, and not for FAULT.
+fn stopped(e: Event) -> bool {
+    e.ran & !e.seen.running & (e.to != 5)
+}
+
 pub(crate) fn stop(e: Event) -> Sentence {
-    if !(e.ran & !e.seen.running & (e.to != 5)) {
+    if !stopped(e) {
         return plain(NOTHING);
     }
     if e.seen.low {

@@ -1,4 +1,5 @@
 // A sentence as data, and its one writer.
+use crate::words::COMMA;
 use crate::words::NO_WORD;
 use crate::words::NOTHING;
 use crate::words::bit_word;
@@ -51,11 +52,11 @@ fn put_lowest(output: &mut [u8], at: usize, rest: u16, number: u8, dead: bool) -
     if rest % 2 == 0 {
         return at;
     }
-    let at = put_word(output, at, bit_word(number, dead));
+    let next = put_word(output, at, bit_word(number, dead));
     if rest == 1 {
-        return at;
+        return next;
     }
-    put(output, at, b",")
+    put_word(output, next, COMMA)
 }
 
 // The bits of a live word, the lowest first.
@@ -75,8 +76,8 @@ pub(crate) fn put_sentence(output: &mut [u8], at: usize, nth: u64, s: Sentence) 
     if s.row == NOTHING {
         return at;
     }
-    let at = put_line(output, at, s.row, nth, s.first, s.second);
-    let at = put_word(output, at, s.word);
-    let at = put_bits(output, at, s.live, s.dead);
-    put(output, at, b"\n")
+    let mut next = put_line(output, at, s.row, nth, s.first, s.second);
+    next = put_word(output, next, s.word);
+    next = put_bits(output, next, s.live, s.dead);
+    put(output, next, b"\n")
 }

@@ -47,11 +47,18 @@ pub(crate) fn live(e: Event) -> Sentence {
     plain(NOTHING)
 }
 
-// The gates changed, and no other sentence tells it: a start charges, and a stop, a trip or a live bit shuts them off.
-pub(crate) fn gates(e: Event) -> Sentence {
+// A start charges, and a stop, a trip or a live bit shuts the gates off.
+fn told_of_gates(e: Event) -> bool {
     let shut = e.ran & !e.seen.running | lights(e);
-    let told = e.seen.started & (e.gate == 1) | shut & (e.gate == 0);
-    if (e.gate == e.old_gate) | told {
+    e.seen.started & (e.gate == 1) | shut & (e.gate == 0)
+}
+
+// The gates changed, and no other sentence tells it.
+pub(crate) fn gates(e: Event) -> Sentence {
+    if e.gate == e.old_gate {
+        return plain(NOTHING);
+    }
+    if told_of_gates(e) {
         return plain(NOTHING);
     }
     worded(GATES, 0, 0, gate_word(e.gate))

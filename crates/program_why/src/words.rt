@@ -90,8 +90,9 @@ pub(crate) fn put_line(
 
 // What may stand behind a sentence, each with its blank in front: the bits of the live word, bit 15 once more; what the gates do; what a
 // setting may be, by its place, and place 0 is all of them; what a field of a cycle and of a tick may be, by its place from 1; the
-// refusals that have no place; what document 01 has no words for.
-const WORDS: [u8; 1827] = *b"
+// refusals that have no place; what document 01 has no words for; and what
+// stands between two bits.
+const WORDS: [u8; 1829] = *b"
  gate kill is 1 (bit 0)
  VdcRaw above CriticalOvLevel (bit 1)
  VdcFilt above VdcOvLevel (bit 2)
@@ -158,6 +159,7 @@ const WORDS: [u8; 1827] = *b"
  outside IDLE and STOP: stop or clear first
  no number of document 01
  not in document 01
+,
 ";
 
 pub(crate) const NO_WORD: u8 = 0;
@@ -181,6 +183,8 @@ pub(crate) const WRONG_STATE: u8 = 64;
 pub(crate) const NO_NUMBER: u8 = 65;
 
 const UNKNOWN: u8 = 66;
+
+pub(crate) const COMMA: u8 = 67;
 
 // A row of several that follow each other.
 fn row_of(from: u8, number: u8, count: u8) -> u8

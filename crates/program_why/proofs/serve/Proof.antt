@@ -29,6 +29,7 @@ loop-less c =
 
 pub serve-spec : {M : Type 1} → statement M
 serve-spec =
-    tie.close (tie.spec Inv-loop μ-loop (λ c κs. tt) (λ c. (refl, refl)) (λ c κs. tt) (λ c κs. tt) (λ c κs. tt) (λ c κs. tt) (λ c. omega arith)
-    loop-less loop-again (λ c. c .before .before .before .loop .inv .0) (λ c. c .before .before .before .loop .inv .1)
-    (λ c. tt) (λ c. c .before .loop .inv .0) (λ c. c .before .loop .inv .1) (λ c. tt))
+    tie.close (tie.spec Inv-loop μ-loop (λ c κs. tt) (λ c. (refl, refl)) (λ c κs. tt) (λ c κs. tt) (λ c κs. tt) (λ c κs. tt)
+    (λ c. omega arith) loop-less loop-again (λ c. c .before .before .before .loop .inv .0)
+    (λ c. c .before .before .before .loop .inv .1) (λ c. tt) (λ c. c .before .loop .inv .0) (λ c. c .before .loop .inv .1)
+    (λ c. tt))
