@@ -111,7 +111,8 @@ module _ {records lines : List ℕ} (j : Judge) (g : Goes records lines j) (inpu
     judges : Turned records lines input printed judged
     judges = decide (shownBy (lineOf printed) .good) reads fails
 
-  follows : (closed : Bool) (f : Front Call) → front input ≡ f → Turned records lines input printed (follow closed j (lineOf printed) f)
+  follows : (closed : Bool) (f : Front Call) → front input ≡ f
+      → Turned records lines input printed (follow closed j (lineOf printed) f)
   follows closed end is = by-test (Turned records lines input printed) closed (λ _. ends (lineOf printed)) (λ _. waits wantsRecords)
   follows closed unknown is = refuses
   follows closed short is = by-test (Turned records lines input printed) closed (λ _. refuses) (λ _. waits wantsRecords)
@@ -125,7 +126,8 @@ module _ {records lines : List ℕ} (j : Judge) (g : Goes records lines j) (inpu
       (λ _. follows closed (front input) refl)
 
 -- bytes taken after others are bytes taken at once
-taken-on : (front : List ℕ) (n m : ℕ) (bytes : List ℕ) → (front ++ take n bytes) ++ take m (drop n bytes) ≡ front ++ take (n + m) bytes
+taken-on : (front : List ℕ) (n m : ℕ) (bytes : List ℕ)
+    → (front ++ take n bytes) ++ take m (drop n bytes) ≡ front ++ take (n + m) bytes
 taken-on front n m bytes = rw (append-assoc front (take n bytes) (take m (drop n bytes)), take-add n m bytes)
 
 module _ (records lines : List ℕ) (closed : Bool) (input : List ℕ) (finished : Bool) (printed : List ℕ) where

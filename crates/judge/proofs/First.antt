@@ -114,7 +114,8 @@ unfolding judgeAll
 no-difference-yet = refl
 
 -- the line that he names is the first that is not the supervisor's
-pub first-difference : (ps : List Printed) → Judged ps → (judgeAll ps .differs ≡ 0 → ⊥) → First Supervised ps (judgeAll ps .differs)
+pub first-difference : (ps : List Printed) → Judged ps → (judgeAll ps .differs ≡ 0 → ⊥)
+    → First Supervised ps (judgeAll ps .differs)
 first-difference =
     names-the-first Supervised (λ ps. judgeAll ps .differs) no-difference-yet (λ ps judged. no-line-differs ps (judged .0)) differs-once
 

@@ -15,7 +15,8 @@ pub one-stream : (pieces : List (List ℕ)) (before : List ℕ) (d : Drive) → 
     → stream shiftline inputSize outputSize pieces before d ≡ inOne shiftline (before ++ flatten pieces) d
 one-stream = streams.one-stream lawful inputSize outputSize roomy
 
-pub left-few : (bytes : List ℕ) (d : Drive) → length bytes ≤ inputSize → openRun shiftline inputSize outputSize bytes d .ended ≡ false
+pub left-few : (bytes : List ℕ) (d : Drive) → length bytes ≤ inputSize
+    → openRun shiftline inputSize outputSize bytes d .ended ≡ false
     → length (left shiftline inputSize outputSize bytes d) ≤ mostHeld
 left-few bytes d = streams.left-few lawful inputSize outputSize roomy held bytes d tt
 

@@ -9,11 +9,14 @@ use Rattle.streams.specs.Run.{Front, end, unknown, short, whole, Program
 
 -- what stands at the front of the bytes `a`, and what stands there when more have come: a part of a record has so many bytes at most, and a
 -- whole one is read off these bytes and lies within them
-pub data Grown {R : Type 0} (sizeOf : R → ℕ) (ReadOff : List ℕ → R → Type 0) (most : ℕ) (a : List ℕ) : Front R → Front R → Type 0 where
-  no-byte : {g : Front R} → length a ≡ 0 → Grown sizeOf ReadOff most a end g
-  no-record : Grown sizeOf ReadOff most a unknown unknown
-  a-part : {g : Front R} → length a ≤ most → Grown sizeOf ReadOff most a short g
-  a-record : (r : R) → ReadOff a r → sizeOf r ≤ length a → Grown sizeOf ReadOff most a (whole r) (whole r)
+pub data Grown
+    {R : Type 0} (sizeOf : R → ℕ) (ReadOff : List ℕ → R → Type 0) (most : ℕ) (a : List ℕ)
+    : Front R → Front R → Type 0
+  where
+    no-byte : {g : Front R} → length a ≡ 0 → Grown sizeOf ReadOff most a end g
+    no-record : Grown sizeOf ReadOff most a unknown unknown
+    a-part : {g : Front R} → length a ≤ most → Grown sizeOf ReadOff most a short g
+    a-record : (r : R) → ReadOff a r → sizeOf r ≤ length a → Grown sizeOf ReadOff most a (whole r) (whole r)
 
 -- two kinds of front are never one
 never : {C : Type 0} → _≡_ {A = ℕ} 0 1 → C
@@ -35,7 +38,8 @@ module _
     pub few : (bytes : List ℕ) → p .front bytes ≡ short → length bytes ≤ mostOf bytes
     few bytes is = go (p .front bytes) (grown bytes []) is
       where
-        go : (f : Front R) {g : Front R} → Grown (p .sizeOf) ReadOff (mostOf bytes) bytes f g → f ≡ short → length bytes ≤ mostOf bytes
+        go : (f : Front R) {g : Front R} → Grown (p .sizeOf) ReadOff (mostOf bytes) bytes f g → f ≡ short
+            → length bytes ≤ mostOf bytes
         go end (no-byte _) e = never (cc)
         go unknown no-record e = never (cc)
         go short (a-part most) e = most
@@ -44,7 +48,8 @@ module _
     pub within : (bytes : List ℕ) (r : R) → p .front bytes ≡ whole r → p .sizeOf r ≤ length bytes
     within bytes r is = go (p .front bytes) (grown bytes []) is
       where
-        go : (f : Front R) {g : Front R} → Grown (p .sizeOf) ReadOff (mostOf bytes) bytes f g → f ≡ whole r → p .sizeOf r ≤ length bytes
+        go : (f : Front R) {g : Front R} → Grown (p .sizeOf) ReadOff (mostOf bytes) bytes f g → f ≡ whole r
+            → p .sizeOf r ≤ length bytes
         go end (no-byte _) e = never (cc)
         go unknown no-record e = never (cc)
         go short (a-part _) e = never (cc)

@@ -78,7 +78,8 @@ module _ {S R : Type 0} {p : Program S R} (law : Lawful p) where
   roomy-for count = a-line-each (p .lineRoom) (law .shortest) count (law .some)
 
   -- how much room there is changes nothing where there is enough
-  enough-room : (fuel : ℕ) (closed : Bool) (bytes : List ℕ) (s : S) (room : ℕ) → length bytes ≤ fuel → Roomy p law room (length bytes)
+  enough-room : (fuel : ℕ) (closed : Bool) (bytes : List ℕ) (s : S) (room : ℕ) → length bytes ≤ fuel
+      → Roomy p law room (length bytes)
       → runs p fuel closed room bytes s ≡ answers p closed bytes s
   enough-room fuel closed bytes s room fueled roomy =
       same-run law closed (λ room other bytes. Roomy p law room (length bytes) × Roomy p law other (length bytes))

@@ -59,7 +59,8 @@ pub behind-the-line : (a : Answer) (lent : List ℕ) → drop lineLength (lentAf
 behind-the-line a lent = behind a lent (accepts a (length lent)) refl
 
 -- a run is not refused as a whole: whatever it comes to, it leaves each byte behind those that it says it wrote
-pub behind-the-lines : (o : Outcome Drive) (lent : List ℕ) → drop (ranOf o .written) (outputAfter o lent) ≡ drop (ranOf o .written) lent
+pub behind-the-lines : (o : Outcome Drive) (lent : List ℕ)
+    → drop (ranOf o .written) (outputAfter o lent) ≡ drop (ranOf o .written) lent
 behind-the-lines o lent = drop-at (o .lines) (drop (length (o .lines)) lent) (length (o .lines)) refl
 
 -- and where its input begins with no whole record, it takes nothing and leaves the state: number 6 or, where more may come, no line

@@ -49,7 +49,8 @@ module _ (c : tie.After-read) where
 
   -- what the definition does about what stands at the front; and about a part of a record
   at-front : {f : Front Call} → front bytes ≡ f
-      → meant ≡ follow shiftline (start .args .closed) (start .args .drive) f (λ (r : Call). rest (reply (start .args .drive) r .drive))
+      → meant
+      ≡ follow shiftline (start .args .closed) (start .args .drive) f (λ (r : Call). rest (reply (start .args .drive) r .drive))
   at-front is = one-front shiftline _ _ _ _ (c .before .if1 .left) is
 
   at-short : c .read .result ≡ Short → {closed : Bool} → start .args .closed ≡ closed
