@@ -88,11 +88,26 @@ pub(crate) fn put_line(
     put_row(output, at, &SENTENCES, row, nth, first, second)
 }
 
-// What may stand behind a sentence, each with its blank in front: the bits of the live word, bit 15 once more; what the gates do; what a
-// setting may be, by its place, and place 0 is all of them; what a field of a cycle and of a tick may be, by its place from 1; the
-// refusals that have no place; what document 01 has no words for; and what
-// stands between two bits.
+// What may stand behind a sentence, each with its blank in front: what a field of a tick and of a cycle may be, by its place from 1; the
+// bits of the live word, bit 15 once more; what the gates do; what a setting may be, by its place, and place 0 is all of them; the
+// refusals that have no place; what document 01 has no words for; and what stands between two bits.
 const WORDS: [u8; 1829] = *b"
+ no field
+ gate_kill is 0..1
+ clear is 0..1
+ command is 0..1
+ control is 0..4095
+ VdcRaw is 0..4095
+ VdcFilt is 0..4095
+ temperature is 0..4095
+ Flx_M is 0..65535
+ TrqRef is -4095..4095
+ speed is -32767..32767
+ target is -32767..32767
+ no field
+ pattern is 0..7
+ first is 0..4095
+ second is 0..4095
  gate kill is 1 (bit 0)
  VdcRaw above CriticalOvLevel (bit 1)
  VdcFilt above VdcOvLevel (bit 2)
@@ -139,22 +154,6 @@ const WORDS: [u8; 1829] = *b"
  CmdStop is 0..4095, below CmdStart
  CmdGain is any 16-bit number
  RetryLimit is 0..100
- no field
- pattern is 0..7
- first is 0..4095
- second is 0..4095
- no field
- gate_kill is 0..1
- clear is 0..1
- command is 0..1
- control is 0..4095
- VdcRaw is 0..4095
- VdcFilt is 0..4095
- temperature is 0..4095
- Flx_M is 0..65535
- TrqRef is -4095..4095
- speed is -32767..32767
- target is -32767..32767
  in IDLE there are no settings: load first
  outside IDLE and STOP: stop or clear first
  no number of document 01
@@ -164,17 +163,17 @@ const WORDS: [u8; 1829] = *b"
 
 pub(crate) const NO_WORD: u8 = 0;
 
-const BITS: u8 = 1;
+const TICK_FIELDS: u8 = 1;
 
-const STRAYS: u8 = 17;
+const CYCLE_FIELDS: u8 = 13;
 
-const GATE_WORDS: u8 = 18;
+const BITS: u8 = 17;
 
-const SETTINGS: u8 = 22;
+const STRAYS: u8 = 33;
 
-const CYCLE_FIELDS: u8 = 47;
+const GATE_WORDS: u8 = 34;
 
-const TICK_FIELDS: u8 = 51;
+const SETTINGS: u8 = 38;
 
 pub(crate) const NO_SETTINGS: u8 = 63;
 
