@@ -113,9 +113,17 @@ read_arguments() { # WORD MOST ARGUMENT ...
     [ "${#files[@]}" -le "$most" ] || wrong_use "surplus argument ${files[most]}"
 }
 
+# Runs the judge, and makes a status of his word, as cmp does: 3 where he has something to object. A program of Rattle gives none.
+judge_all() { # FEED
+    local verdict
+    verdict=$(run_program "$1") || return
+    { printf '%s\n' "$verdict"; } 2>/dev/null || fail 1 "standard output cannot be written."
+    [[ $verdict == *$' calls judged\nno line of these differs from what the supervisor answers\nnone of these breaks demand 3' ]] || return 3
+}
+
 # Runs the program WORD over the records of the first file and, where a second one is given, JUDGE over them and the lines of that.
 launch() { # WORD JUDGE ARGUMENT ...
-    local word=$1 judge=$2
+    local word=$1 judge=$2 run=run_program
     command=$word
     read_arguments "$word" "$([ -n "$judge" ] && echo 2 || echo 1)" "${@:3}"
     look_at_descriptors
@@ -125,12 +133,12 @@ launch() { # WORD JUDGE ARGUMENT ...
         open_lines "${files[1]}"
         [ "${files[0]}" != - ] || exec <&4
         exec 4<&-
-        word=$judge
+        word=$judge run=judge_all
     fi
     open_input "${files[0]--}"
     look
     [ "$kind" != utf16 ] || fail 2 "$name is text in UTF-16: save it as UTF-8, and give that."
     [ "$kind" != text ] || command -v python3 >/dev/null || fail 2 "python3 is missing: it turns the text of $name into records."
     make_ready "$word"
-    if [ "$kind" = text ]; then run_program converted_input; else run_program whole_input; fi
+    if [ "$kind" = text ]; then "$run" converted_input; else "$run" whole_input; fi
 }

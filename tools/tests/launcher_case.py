@@ -34,7 +34,7 @@ cp "crates/$2/src/main.rt" "target/bin/$2"
 LOADER = '#!/bin/sh\nshift 2\nexec /bin/sh "$@"\n'
 # The bytes that come in go out. As programs of Rattle do, it complains on standard error and has no status of its own.
 COPIES = "cat\nexit 0\n"
-JUDGES = "cat\necho and the lines\ncat <&3\n"
+JUDGES = "od -An -v -tx1 | tr -d ' \\n'\necho\ncat <&3\n"  # the records in hexadecimal, and then the lines
 FILES = {
     "crates.txt": "# NAME: what it knows\nnumbers:\ndrive: numbers\nprogram_shiftline: drive numbers io libc\nprogram_judge: drive\n",
     "crates/numbers/src/lib.rt": "one\n",

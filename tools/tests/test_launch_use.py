@@ -137,10 +137,21 @@ class Input(Case):
 
     def test_records_and_the_lines_of_a_board(self):
         shift, lines = self.file("shift", TEXT), self.file("lines", b"\xef\xbb\xbfone\r\ntwo\r\r\nthree")
-        wanted = RECORD + b"and the lines\none\ntwo\r\nthree\n"  # with the last line feed, which copying loses
+        wanted = RECORD.hex().encode() + b"\none\ntwo\r\nthree\n"  # with the last line feed, which copying loses
         for arguments, given in (((shift, lines), b""), (("-", lines), TEXT), ((shift, "-"), lines.read_bytes())):
             self.assertEqual(self.run_it("why", *arguments, given=given).stdout, wanted, arguments)
         self.told(self.run_it("why", shift, self.room / "none"), 2, "there is no file")
+
+    def test_the_judges_word_is_the_status(self):
+        shift, word = self.file("shift", RECORD), b"2 calls judged\n%s\n%s\n"
+        same, kept = b"no line of these differs from what the supervisor answers", b"none of these breaks demand 3"
+        for said, status in ((word % (same, kept), 0), (word % (b"record 1      the line differs", kept), 3), (word % (same, b"record 2"), 3),
+                             (word % (same, kept) + b"record 3      has no line\n", 3)):  # fmt: skip
+            done = self.run_it("why", shift, self.file("lines", said))
+            self.assertEqual(done.returncode, status, said)
+            self.assertTrue(done.stdout.endswith(said), done.stdout)
+        with open("/dev/full", "wb") as full:
+            self.told(self.run_it("why", shift, self.file("lines", word % (same, kept)), stdout=full), 1, "standard output cannot be written")
 
 
 class NoPython(Case):
