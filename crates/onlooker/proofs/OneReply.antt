@@ -14,3 +14,12 @@ cycle κs given r s p q = same (p ∙⁻¹ q) refl
 
 pub tick : OneReply promises.Onlooker.tick.ended promises.Onlooker.tick.Reads.Post
 tick κs given r s p q = same (p ∙⁻¹ q) refl
+
+pub witness-load : OneReply promises.witness.Heard.load.ended promises.witness.Heard.load.Reads.Post
+witness-load κs given r s p q = same (p ∙⁻¹ q) refl
+
+pub witness-cycle : OneReply promises.witness.Heard.cycle.ended promises.witness.Heard.cycle.Reads.Post
+witness-cycle κs given r s p q = same (p ∙⁻¹ q) refl
+
+pub witness-tick : OneReply promises.witness.Heard.tick.ended promises.witness.Heard.tick.Reads.Post
+witness-tick κs given r s p q = same (p ∙⁻¹ q) refl

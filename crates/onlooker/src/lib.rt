@@ -2,6 +2,7 @@
 mod notes;
 pub mod past;
 pub mod scene;
+pub mod witness;
 mod words;
 
 use drive::answer::Answer;

@@ -1,8 +1,8 @@
 // What a record's sentences are made of.
-use crate::hear::Heard;
 use crate::words::NO_RECORD;
 use crate::words::NOTHING;
 use onlooker::past::Seen;
+use onlooker::witness::Heard;
 use records::Found;
 use settings::CONTROL_MODE;
 
