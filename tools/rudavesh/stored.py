@@ -11,7 +11,7 @@ from typing import Callable, Dict, List, NamedTuple
 
 from . import model
 from .arguments import parser_of
-from .expected import Files, benchline, generated, hall_pairs, judge_example, refusals
+from .expected import Files, benchline, generated, hall_pairs, judge_example
 from .expected import report_lines, shiftline_example, splits, why_story
 from .places import ROOT, program_folder
 
@@ -30,7 +30,6 @@ STORED: Dict[str, Stored] = {
     "benchline": Stored(benchline.files, by_the_model=True),
     "judge": Stored(judge_example.files, by_the_model=False),
     "splits": Stored(splits.files, by_the_model=True),
-    "refusals": Stored(refusals.files, by_the_model=False),
     "hall_pairs": Stored(hall_pairs.files, by_the_model=False),
     "report_lines": Stored(report_lines.files, by_the_model=False),
     "generated": Stored(generated.files, by_the_model=True),

@@ -1,19 +1,14 @@
-"""What the program benchline reads and must print: a generated stream, longer than one read, loads of any length, and records
-in the readable text form; their lines by the independent model."""
+"""What the program benchline reads and must print: each refusal in each state, a generated stream, longer than one read, loads of any
+length, and records in the readable text form; their lines by the independent model. Of the refusals document 01's own tables say
+number and place, too."""
 
 import io
-from typing import Sequence
 
 from .. import model
 from ..record_form import LOAD
 from ..records_text import read_text, write_text
 from . import Files
-
-
-def numbered(numbers: Sequence[int]) -> bytes:
-    """A load of so many numbers: "N | count (1 byte), then so many numbers"."""
-    return bytes([ord("N"), len(numbers)]) + b"".join(number.to_bytes(2, "big") for number in numbers)
-
+from .refusals import cases, numbered
 
 GOOD = list(LOAD.defaults)
 
@@ -35,7 +30,7 @@ tick clear=1 gate_kill=0 temperature=1000
 load VdcOvLevel=4096          # refused with 2: place 3
 """
 
-# The generated stream comes first, and ends between two records with the motor running.
+# The generated stream comes after the refusals, from STOP, and ends between two records with the motor running.
 SEED, RECORDS = 11, 600
 STOPPED = "tick gate_kill=1 VdcRaw=0\ntick clear=1 gate_kill=0 VdcRaw=0"
 
@@ -53,10 +48,15 @@ def packed(text: str) -> bytes:
 
 
 def records() -> bytes:
+    refusals = b"".join(case.record for case in cases())
     loads = b"".join(map(numbered, LOADS))
-    return model.generated_for_bench(SEED, RECORDS) + packed(STOPPED) + loads + packed(TEXT) + SHORT
+    stopped = packed(STOPPED)
+    return refusals + stopped + model.generated_for_bench(SEED, RECORDS) + stopped + loads + packed(TEXT) + SHORT
 
 
 def files() -> Files:
     made = records()
-    return {"stdin": made, "stdout": model.bench_lines(made)}
+    lines = model.bench_lines(made)
+    for number, (case, line) in enumerate(zip(cases(), lines.decode("ascii").splitlines()), 1):
+        assert f"{line} ".startswith(f"{case.line} "), f"record {number}: the tables of document 01 say {case.line}, the model {line}"
+    return {"stdin": made, "stdout": lines}

@@ -1,18 +1,29 @@
-"""What the program refusals must print, worked out from document 01's refusals, settings and fields."""
+"""Records that give each refusal of load, cycle and tick once and more, in every state, and number and place of each, worked out from
+document 01's refusals, settings and fields. They are the beginning of what the program benchline reads: it shows the places."""
 
-from typing import Iterator, List
+from typing import Iterator, List, NamedTuple, Sequence
 
 from ..record_form import CYCLE, LOAD, TICK, Field, Kind
-from . import Files, printed
 
 SIXTEEN_BITS = range(65536)
 # The paper's example, but for a CriticalOvLevel that leaves VdcOvLevel its whole range.
 GOOD = [4095 if one.name == "CriticalOvLevel" else one.default for one in LOAD.fields]
+BAD = [2, *GOOD[1:]]
 STILL = [1, 0, 0]
 # A tick that raises no flag.
 QUIET = TICK.defaults
 
-STATES = "IDLE STOP OFFSETCAL STOP BTSCHARGE CATCHSPIN ANGLESENSING PARKING OPENLOOP MOTORRUN FAULT".split()
+
+class Case(NamedTuple):
+    """A record, and the front of its line: number and place and, where it matters, the state that it shows."""
+
+    record: bytes
+    line: str
+
+
+def numbered(numbers: Sequence[int]) -> bytes:
+    """A load of so many numbers: "N | count (1 byte), then so many numbers"."""
+    return bytes([ord("N"), len(numbers)]) + b"".join(number.to_bytes(2, "big") for number in numbers)
 
 
 def keeps_rule(settings: List[int], field: Field, value: int) -> bool:
@@ -21,29 +32,69 @@ def keeps_rule(settings: List[int], field: Field, value: int) -> bool:
     return field.allows(value) and (relation is None or relation.holds(value, settings[LOAD.place(relation.other) - 1]))
 
 
-def load(state: str, numbers: List[int]) -> str:
-    if state not in ("IDLE", "STOP"):
-        return "4 0"
-    if len(numbers) != len(LOAD.fields):
-        return "2 0"
+def load(state: str, numbers: List[int]) -> Case:
     places = enumerate(zip(LOAD.fields, numbers), 1)
-    return next((f"2 {place}" for place, (field, value) in places if not keeps_rule(numbers, field, value)), "0 0")
+    if state not in ("IDLE", "STOP"):
+        line = "4 0"
+    elif len(numbers) != len(LOAD.fields):
+        line = "2 0"
+    else:
+        line = next((f"2 {place}" for place, (field, value) in places if not keeps_rule(numbers, field, value)), "0 0")
+    return Case(numbered(numbers), line)
 
 
-def call(state: str, kind: Kind, values: List[int]) -> str:
-    if state == "IDLE":
-        return "3 0"
+def call(state: str, kind: Kind, values: List[int]) -> Case:
     places = enumerate(zip(kind.fields, values), 1)
-    return next((f"1 {place}" for place, (field, value) in places if not field.allows(value)), "0 0")
+    refused = next((f"1 {place}" for place, (field, value) in places if not field.allows(value)), "0 0")
+    return Case(kind.packed(*values), "3 0" if state == "IDLE" else refused)
 
 
-def put(numbers: List[int], place: int, value: int) -> List[int]:
-    return numbers[: place - 1] + [value] + numbers[place:]
+def put(numbers: Sequence[int], place: int, value: int) -> List[int]:
+    return [*numbers[: place - 1], value, *numbers[place:]]
 
 
-def each_setting() -> Iterator[str]:
+def tick(**fields: int) -> List[int]:
+    """A quiet tick but for these fields."""
+    return [fields.get(one.name, value) for one, value in zip(TICK.fields, QUIET)]
+
+
+# From power-up on: each state, its number, the cycles that it needs, and the tick that leaves it.
+WALK = (
+    ("STOP", 1, 0, tick(command=0)),
+    ("OFFSETCAL", 2, 64, tick(command=0)),
+    ("STOP", 1, 0, tick(command=1)),
+    ("BTSCHARGE", 3, 3, tick(command=1)),
+    ("CATCHSPIN", 6, 0, tick(command=1)),
+    ("ANGLESENSING", 9, 0, tick(command=1)),
+    ("PARKING", 7, 0, tick(command=1)),
+    ("OPENLOOP", 8, 0, tick(command=1)),
+    ("MOTORRUN", 4, 0, tick(gate_kill=1)),
+    ("FAULT", 5, 0, tick(clear=1)),
+)
+
+
+def in_state(state: str, number: int) -> Iterator[Case]:
+    """What a state refuses, and that it is the state which the answers show."""
+    for case in (load(state, BAD), load(state, GOOD[:-1]), call(state, CYCLE, put(STILL, 1, 8)), call(state, TICK, put(QUIET, 1, 2))):
+        yield Case(case.record, f"{case.line} {number}")
+
+
+def states() -> Iterator[Case]:
+    yield from in_state("IDLE", 0)
+    for state, kind, values in (("IDLE", CYCLE, STILL), ("IDLE", TICK, QUIET)):
+        yield call(state, kind, values)
+    yield load("IDLE", GOOD)
+    for state, number, cycles, leaving in WALK:
+        yield from in_state(state, number)
+        if state not in ("IDLE", "STOP"):
+            yield load(state, GOOD)
+        yield from [call(state, CYCLE, STILL)] * cycles
+        yield call(state, TICK, leaving)
+    yield load("STOP", GOOD)
+
+
+def each_setting() -> Iterator[Case]:
     """The least and the greatest value that is accepted, and one beyond each, where 16 bits hold it."""
-    assert load("IDLE", GOOD) == "0 0"
     for place, field in enumerate(LOAD.fields, 1):
         # The other rules do not look at this setting, and hold of GOOD.
         looking = [one for one in LOAD.fields if one.relation and one.relation.other == field.name]
@@ -55,62 +106,39 @@ def each_setting() -> Iterator[str]:
         assert accepted == list(range(least, most + 1))
         for value in least - 1, least, most, most + 1:
             if value in SIXTEEN_BITS:
-                yield f"setting {place} at {value} " + load("IDLE", put(GOOD, place, value))
+                yield load("STOP", put(GOOD, place, value))
 
 
-def several_settings() -> Iterator[str]:
+def several_settings() -> Iterator[Case]:
     """Every setting from a place on refused, where it can be."""
     numbers = GOOD
     for place in range(len(GOOD), 0, -1):
         refused = [value for value in (65535, 0) if not LOAD.fields[place - 1].allows(value)]
         numbers = put(numbers, place, refused[0]) if refused else numbers
-        yield f"settings from {place} " + load("IDLE", numbers)
+        yield load("STOP", numbers)
 
 
-def sizes() -> Iterator[str]:
+def sizes() -> Iterator[Case]:
     for size in range(31):
-        numbers = (GOOD + [0] * 6)[:size]
-        yield f"load of {size} numbers " + load("IDLE", numbers)
-        yield f"bad load of {size} numbers " + load("IDLE", [2] + numbers[1:] if numbers else [])
+        yield load("STOP", (GOOD + [0] * 6)[:size])
+        yield load("STOP", (BAD + [0] * 6)[:size])
 
 
-def states() -> Iterator[str]:
-    bad = put(GOOD, 1, 2)
-    for state in STATES:
-        yield f"load in {state} " + load(state, GOOD)
-        yield f"bad load in {state} " + load(state, bad)
-        yield f"load of {len(GOOD) - 1} numbers in {state} " + load(state, bad[:-1])
-        yield f"cycle in {state} " + call(state, CYCLE, STILL)
-        yield f"bad cycle in {state} " + call(state, CYCLE, put(STILL, 1, 8))
-        yield f"tick in {state} " + call(state, TICK, QUIET)
-        yield f"bad tick in {state} " + call(state, TICK, put(QUIET, 1, 2))
-
-
-def cycles() -> Iterator[str]:
-    for place, field in enumerate(CYCLE.fields, 1):
-        least, most = field.range
-        for value in least, most, most + 1:
-            yield f"cycle field {place} at {value} " + call("STOP", CYCLE, put(STILL, place, value))
-    yield from all_refused_from(CYCLE)
-
-
-def ticks() -> Iterator[str]:
-    for place, field in enumerate(TICK.fields, 1):
+def fields_of(kind: Kind, good: List[int]) -> Iterator[Case]:
+    """Each field at the ends of its range, and beyond them where its bytes hold it; then every field from a place on out of its range."""
+    for place, field in enumerate(kind.fields, 1):
         (least, most), (lowest, highest) = field.range, field.held
-        below = [least - 1] if least > lowest else []
-        # One above 32767 has the bits of -32768.
-        above = [most + 1] if most < highest else [-32768] if most == 32767 else []
-        for value in [*below, least, most, *above]:
-            yield f"tick field {place} at {value} " + call("STOP", TICK, put(QUIET, place, value))
-    yield from all_refused_from(TICK)
-
-
-def all_refused_from(kind: Kind) -> Iterator[str]:
-    """Every field from a place on out of range, where its bytes can hold such a value (those of Flx_M cannot): the first counts."""
+        for value in (least - 1, least, most, most + 1, lowest):
+            if lowest <= value <= highest:
+                yield call("STOP", kind, put(good, place, value))
+    numbers = good
     for place in range(len(kind.fields), 0, -1):
-        first = next(at for at, field in enumerate(kind.fields, 1) if at >= place and field.held != field.range)
-        yield f"{kind.word} fields from {place} 1 {first}"
+        field = kind.fields[place - 1]
+        refused = [value for value in (field.held[1], field.held[0]) if not field.allows(value)]
+        numbers = put(numbers, place, refused[0]) if refused else numbers
+        yield call("STOP", kind, numbers)
 
 
-def files() -> Files:
-    return printed([*each_setting(), *several_settings(), *sizes(), *states(), *cycles(), *ticks()])
+def cases() -> List[Case]:
+    """From power-up on. The fields come last: an accepted tick leaves STOP, where no load would be refused as it is here."""
+    return [*states(), *each_setting(), *several_settings(), *sizes(), *fields_of(CYCLE, STILL), *fields_of(TICK, list(QUIET))]
