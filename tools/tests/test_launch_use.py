@@ -145,13 +145,15 @@ class Input(Case):
     def test_the_judges_word_is_the_status(self):
         shift, word = self.file("shift", RECORD), b"2 calls judged\n%s\n%s\n"
         same, kept = b"no line of these differs from what the supervisor answers", b"none of these breaks demand 3"
-        for said, status in ((word % (same, kept), 0), (word % (b"record 1      the line differs", kept), 3), (word % (same, b"record 2"), 3),
-                             (word % (same, kept) + b"record 3      has no line\n", 3)):  # fmt: skip
+        content = word % (same, kept)
+        differs, breaks, more = word % (b"record 1      the line differs", kept), word % (same, b"record 2"), content + b"record 3\n"
+        for said, status in ((content, 0), (differs, 3), (breaks, 3), (more, 3)):
             done = self.run_it("why", shift, self.file("lines", said))
             self.assertEqual(done.returncode, status, said)
             self.assertTrue(done.stdout.endswith(said), done.stdout)
         with open("/dev/full", "wb") as full:
-            self.told(self.run_it("why", shift, self.file("lines", word % (same, kept)), stdout=full), 1, "standard output cannot be written")
+            done = self.run_it("why", shift, self.file("lines", content), stdout=full)
+            self.told(done, 1, "standard output cannot be written")
 
 
 class NoPython(Case):
