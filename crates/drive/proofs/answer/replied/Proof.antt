@@ -3,5 +3,8 @@ use borrow.Author.Needs.{needs}
 use Rattle.drive.proofs.answer.replied.Statement.{statement}
 use Rattle.drive.proofs.answer.replied.Tie as tie
 
+returns : tie.Need-returns
+returns c = rw (c .answered .ensures)
+
 pub replied-spec : {M : Type 1} → statement M
-replied-spec = tie.close (tie.spec (search needs) (λ c. rw (c .answered .ensures)))
+replied-spec = tie.close (tie.spec (search needs) returns)
