@@ -115,10 +115,10 @@ read_arguments() { # WORD MOST ARGUMENT ...
 
 # Runs the judge, and makes a status of his word, as cmp does: 3 where he has something to object. A program of Rattle gives none.
 judge_all() { # FEED
-    local verdict
+    local verdict silent=$' calls judged\nno line of these differs from what the supervisor answers\nnone of these breaks demand 3'
     verdict=$(run_program "$1") || return
     { printf '%s\n' "$verdict"; } 2>/dev/null || fail 1 "standard output cannot be written."
-    [[ $verdict == *$' calls judged\nno line of these differs from what the supervisor answers\nnone of these breaks demand 3' ]] || return 3
+    [[ $verdict == *"$silent" ]] || return 3
 }
 
 # Runs the program WORD over the records of the first file and, where a second one is given, JUDGE over them and the lines of that.
