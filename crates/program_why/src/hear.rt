@@ -1,35 +1,18 @@
 // What was heard before the first record, and the call that a record asks for, made and heard.
 use drive::Drive;
-use drive::answer::Answer;
-use drive::offsets::Pair;
+use drive::answer::answered;
 use onlooker::Onlooker;
 use onlooker::witness::Heard;
 use records::Found;
 use records::settings_at;
 
-// Nobody has answered yet; what stands here is never read.
-const NO_ANSWER: Answer = Answer {
-    number: 0,
-    place: 0,
-    state: 0,
-    gate: 0,
-    live: 0,
-    reference: 0,
-    position: 0,
-    angle: 0,
-    offsets: Pair {
-        first: 0,
-        second: 0,
-    },
-    retries: 0,
-};
-
-// Before the first call.
+// Before the first call. Nobody has answered yet: what stands for the answer is never read.
 pub(crate) fn silence() -> Heard {
+    let drive = Drive::power_up();
     Heard {
-        drive: Drive::power_up(),
+        drive,
         onlooker: Onlooker::new(),
-        answer: NO_ANSWER,
+        answer: answered(drive, 0, 0),
     }
 }
 
