@@ -23,7 +23,7 @@ old: z
 new: w
 """
 
-# as rattle prints them: two facts of their own, a caller of an unproved function, and a theorem's error
+# as rattle prints them: two errors of their own, a caller of an unproved function, and a theorem's error
 LOG = """/t/must-fail/pump/first/proofs/Drive/cycle/Proof.antt:10:5: error: `returns`: give a proof of that as the last argument
 /t/must-fail/pump/first/proofs/Drive/cycle/Proof.antt:19:85: error: `cycle-spec`: `returns` was not admitted (it was rejected)
 /t/must-fail/pump/first/proofs/run/Proof.antt:4:5: error: `run-spec`: `close` was not admitted (it was rejected), so this cannot be checked
@@ -93,7 +93,7 @@ class Refused(unittest.TestCase):
     def test_refused_by_something_else(self) -> None:
         run = self.asked(EDIT.replace("Drive::tick", "run"), LOG)
         self.assertEqual(run.returncode, 1)
-        self.assertIn("run does not refuse it by a fact of its own.", run.stdout)
+        self.assertIn("run does not refuse it by an error of its own.", run.stdout)
         self.assertIn("Drive::tick refuses it, and the edit does not say so.", run.stdout)
 
     def test_a_changed_definition_may_be_refused_by_more(self) -> None:
