@@ -2,18 +2,33 @@
 //! theirs, and counts of what they reach.
 //!
 //! A generated stream is steered by its own records, so what is put among them
-//! changes no state: an L becomes the N of the same 24 numbers, and an N that
+//! changes no state: an L or M becomes the N of the same numbers, and an N that
 //! comes besides is one that is refused.
 
 use crate::benchline::{read_bench_head, BenchHead, BenchRecord};
-use crate::drive::Drive;
+use crate::drive::{Answer, Drive};
 use crate::generator::stream;
+use crate::hall::{Layout, THREE_SENSORS, TWO_SENSORS};
+use crate::load::SENSORS_PLACE;
 use crate::random::Random;
-use crate::record::Record;
+use crate::record::{record_length, Record};
 use crate::settings::SETTINGS;
 use std::collections::BTreeMap;
 
-const LENGTHS: [usize; 9] = [0, 1, 2, 23, SETTINGS, SETTINGS, 25, 48, 255];
+const LENGTHS: [usize; 12] = [
+    0,
+    1,
+    2,
+    23,
+    SETTINGS,
+    SETTINGS,
+    SENSORS_PLACE,
+    SENSORS_PLACE,
+    SENSORS_PLACE,
+    26,
+    48,
+    255,
+];
 
 /// The stream of a seed: so many records of the generator, and those besides.
 pub fn bench_stream(seed: u64, records: u64) -> Vec<u8> {
@@ -29,10 +44,10 @@ pub fn bench_stream(seed: u64, records: u64) -> Vec<u8> {
             put_besides(&mut random, &last_load, &drive, &mut written);
         }
         let mut record = record;
-        if let BenchRecord::AsInShiftline(Record::Load(numbers)) = &record {
+        if let Some(numbers) = record.as_in_shiftline().and_then(Record::numbers) {
             last_load = numbers.to_vec();
             if random.chance(500) {
-                record = BenchRecord::Numbers(numbers.to_vec());
+                record = BenchRecord::Numbers(last_load.clone());
             }
         }
         written.extend_from_slice(&record.bytes());
@@ -58,6 +73,9 @@ fn put_besides(random: &mut Random, last_load: &[u16], drive: &Drive, written: &
         let spoiled = random.between(0, length as i64 - 1) as usize;
         numbers[spoiled] = random.pick(&[0, 1, 255, 256, 4096, 32768, 65535]);
     }
+    if length == SENSORS_PLACE && random.chance(700) {
+        numbers[SETTINGS] = random.pick(&[0, 1, 4, 65535]);
+    }
     let record = BenchRecord::Numbers(numbers);
     if record.call(drive).answer.number != 0 {
         written.extend_from_slice(&record.bytes());
@@ -73,26 +91,45 @@ fn short_numbers(random: &mut Random) -> Vec<u8> {
     whole[..kept].to_vec()
 }
 
+/// Whether a load has a setting 25 "outside 2..3".
+fn has_bad_sensors(numbers: &[u16]) -> bool {
+    let sensors = numbers.get(SETTINGS);
+    sensors.is_some_and(|&sensors| Layout::of(sensors).is_none())
+}
+
 /// Names that are counted.
-const LIST: [&str; 20] = [
+const LIST: [&str; 33] = [
     "N accepted in IDLE",
     "N accepted in STOP",
+    "N accepted with 25 numbers, two sensors",
+    "N accepted with 25 numbers, three sensors",
+    "N accepted with 24 numbers after two sensors",
+    "M accepted with two sensors",
+    "M accepted with three sensors",
     "N refused 2 at 0 with 0 numbers",
     "N refused 2 at 0 with 23 numbers",
-    "N refused 2 at 0 with 25 numbers",
+    "N refused 2 at 0 with 26 numbers",
     "N refused 2 at 0 with 255 numbers",
     "N refused 2 by a setting",
+    "N refused 2 at 25",
+    "N refused 2 before place 25 with a bad setting 25",
+    "M refused 2 at 25",
+    "M refused 2 before place 25 with a bad setting 25",
     "N refused 4 with 24 numbers",
+    "N refused 4 with 25 numbers",
     "N refused 4 with another length",
+    "C refused 1 at 1 with two sensors, pattern 4 to 7",
     "short N: the letter alone",
     "short N: no number whole",
     "short N: in its numbers",
+    "short M: 24 numbers whole",
     "? after an unknown or a short record of shiftline",
     "end between records",
     "place above 0 by a load",
     "place above 0 by a cycle",
     "place above 0 by a tick",
     "offsets that differ",
+    "offsets that differ with two sensors",
     "retries above 0",
     "retries above 1",
 ];
@@ -113,7 +150,7 @@ impl BenchReached {
                 BenchHead::Whole(record, length) => {
                     rest = &rest[length..];
                     let reply = record.call(&drive);
-                    self.whole(&record, drive.state.number(), &reply.answer);
+                    self.whole(&record, &drive, &reply.answer);
                     drive = reply.drive;
                 }
             }
@@ -121,28 +158,20 @@ impl BenchReached {
     }
 
     fn bad(&mut self, rest: &[u8]) {
+        let whole_with_24 = record_length(b'L').expect("L is known");
         self.count(match rest {
             [b'N'] => "short N: the letter alone",
             [b'N', _] | [b'N', _, _] => "short N: no number whole",
             [b'N', ..] => "short N: in its numbers",
+            [b'M', ..] if rest.len() >= whole_with_24 => "short M: 24 numbers whole",
             _ => "? after an unknown or a short record of shiftline",
         });
     }
 
-    fn whole(&mut self, record: &BenchRecord, state: u8, answer: &crate::drive::Answer) {
-        if let BenchRecord::Numbers(numbers) = record {
-            match (answer.number, answer.place, numbers.len()) {
-                (0, _, _) if state == 0 => self.count("N accepted in IDLE"),
-                (0, _, _) => self.count("N accepted in STOP"),
-                (2, 0, 0) => self.count("N refused 2 at 0 with 0 numbers"),
-                (2, 0, 23) => self.count("N refused 2 at 0 with 23 numbers"),
-                (2, 0, 25) => self.count("N refused 2 at 0 with 25 numbers"),
-                (2, 0, 255) => self.count("N refused 2 at 0 with 255 numbers"),
-                (2, 1.., _) => self.count("N refused 2 by a setting"),
-                (4, _, SETTINGS) => self.count("N refused 4 with 24 numbers"),
-                (4, _, _) => self.count("N refused 4 with another length"),
-                _ => {}
-            }
+    fn whole(&mut self, record: &BenchRecord, before: &Drive, answer: &Answer) {
+        match record {
+            BenchRecord::Numbers(numbers) => self.numbers(numbers, before, answer),
+            BenchRecord::AsInShiftline(record) => self.as_in_shiftline(record, before, answer),
         }
         if answer.place > 0 {
             self.count(match record {
@@ -153,12 +182,69 @@ impl BenchReached {
         }
         if answer.offsets.first != answer.offsets.second {
             self.count("offsets that differ");
+            if *before.layout == TWO_SENSORS {
+                self.count("offsets that differ with two sensors");
+            }
         }
         if answer.retries_used > 0 {
             self.count("retries above 0");
         }
         if answer.retries_used > 1 {
             self.count("retries above 1");
+        }
+    }
+
+    fn numbers(&mut self, numbers: &[u16], before: &Drive, answer: &Answer) {
+        let after_two = *before.layout == TWO_SENSORS;
+        if answer.number == 0 {
+            self.count(match before.state.number() {
+                0 => "N accepted in IDLE",
+                _ => "N accepted in STOP",
+            });
+        }
+        match (answer.number, answer.place, numbers.len()) {
+            (0, _, SETTINGS) if after_two => {
+                self.count("N accepted with 24 numbers after two sensors");
+            }
+            (0, _, SENSORS_PLACE) => self.count(match numbers[SETTINGS] {
+                2 => "N accepted with 25 numbers, two sensors",
+                _ => "N accepted with 25 numbers, three sensors",
+            }),
+            (2, 0, 0) => self.count("N refused 2 at 0 with 0 numbers"),
+            (2, 0, 23) => self.count("N refused 2 at 0 with 23 numbers"),
+            (2, 0, 26) => self.count("N refused 2 at 0 with 26 numbers"),
+            (2, 0, 255) => self.count("N refused 2 at 0 with 255 numbers"),
+            (2, 25, _) => self.count("N refused 2 at 25"),
+            (2, 1.., _) => {
+                self.count("N refused 2 by a setting");
+                if has_bad_sensors(numbers) {
+                    self.count("N refused 2 before place 25 with a bad setting 25");
+                }
+            }
+            (4, _, SETTINGS) => self.count("N refused 4 with 24 numbers"),
+            (4, _, SENSORS_PLACE) => self.count("N refused 4 with 25 numbers"),
+            (4, _, _) => self.count("N refused 4 with another length"),
+            _ => {}
+        }
+    }
+
+    fn as_in_shiftline(&mut self, record: &Record, before: &Drive, answer: &Answer) {
+        match (record, answer.number, answer.place) {
+            (Record::LoadWithSensors(numbers), 0, _) => self.count(match numbers[SETTINGS] {
+                2 => "M accepted with two sensors",
+                _ => "M accepted with three sensors",
+            }),
+            (Record::LoadWithSensors(_), 2, 25) => self.count("M refused 2 at 25"),
+            (Record::LoadWithSensors(numbers), 2, _) if has_bad_sensors(numbers) => {
+                self.count("M refused 2 before place 25 with a bad setting 25");
+            }
+            (Record::Cycle(fields), 1, 1)
+                if *before.layout == TWO_SENSORS
+                    && fields.pattern <= THREE_SENSORS.most_pattern =>
+            {
+                self.count("C refused 1 at 1 with two sensors, pattern 4 to 7");
+            }
+            _ => {}
         }
     }
 

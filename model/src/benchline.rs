@@ -7,7 +7,7 @@ use crate::record::{read_head, record_length, Head, Record};
 /// The rows of its table.
 #[derive(Clone, Debug, PartialEq, Eq)]
 pub enum BenchRecord {
-    /// "L, C, T | as in `shiftline`"
+    /// "L, C, T | as in `shiftline`", and "M | as in `shiftline`"
     AsInShiftline(Record),
     /// "N | count (1 byte), then so many numbers | load of any length"
     Numbers(Vec<u16>),
@@ -57,6 +57,14 @@ fn read_numbers(rest: &[u8]) -> BenchHead {
 }
 
 impl BenchRecord {
+    /// The record of `shiftline` that it is, where it is one.
+    pub fn as_in_shiftline(&self) -> Option<&Record> {
+        match self {
+            BenchRecord::AsInShiftline(record) => Some(record),
+            BenchRecord::Numbers(_) => None,
+        }
+    }
+
     /// Makes the call of the record.
     pub fn call(&self, drive: &Drive) -> Reply {
         match self {

@@ -4,7 +4,7 @@ use crate::causes::FULL_STILL_COUNT;
 use crate::drive::{Drive, Pair, Refusal, Reply};
 use crate::fields::{bad_places, FieldRule, Form, MOST_LEVEL};
 use crate::flag::Flag;
-use crate::hall::{boundary_angle, group, middle_angle, with_offset, Group};
+use crate::hall::{with_offset, Group, Layout};
 use crate::settings::Setting;
 use crate::state::State;
 
@@ -15,12 +15,19 @@ pub struct CycleFields {
     pub samples: Pair<i64>,
 }
 
-/// In the order of the record.
+/// In the order of the record, with three sensors.
 pub const CYCLE_RULES: [FieldRule; 3] = [
     FieldRule::new("pattern", Form::Byte, 0, 7),
     FieldRule::new("first sample", Form::Number, 0, MOST_LEVEL),
     FieldRule::new("second sample", Form::Number, 0, MOST_LEVEL),
 ];
+
+/// The same for a layout: M-101, "pattern above 3 with two sensors is 1".
+pub fn cycle_rules(layout: &Layout) -> [FieldRule; 3] {
+    let [mut pattern, first, second] = CYCLE_RULES;
+    pattern.most = layout.most_pattern;
+    [pattern, first, second]
+}
 
 impl CycleFields {
     /// The fields in order.
@@ -34,8 +41,8 @@ impl CycleFields {
     }
 
     /// "cycle or tick field out of range": the places of all bad fields.
-    pub fn bad_fields(&self) -> Vec<u8> {
-        bad_places(&CYCLE_RULES, &self.each())
+    pub fn bad_fields(&self, layout: &Layout) -> Vec<u8> {
+        bad_places(&cycle_rules(layout), &self.each())
     }
 }
 
@@ -46,7 +53,7 @@ impl Drive {
             return self.refuse(Refusal::InIdle, 0);
         }
         // "first bad field, from 1"
-        if let Some(&place) = fields.bad_fields().first() {
+        if let Some(&place) = fields.bad_fields(self.layout).first() {
             return self.refuse(Refusal::FieldOutOfRange, place);
         }
         let mut next = self.clone();
@@ -57,7 +64,8 @@ impl Drive {
 
     fn take_pattern(&mut self, pattern: i64) {
         let offset = self.settings[Setting::HallAngleOffset];
-        let group = group(pattern, self.kept_pattern);
+        let layout = self.layout;
+        let group = layout.group(pattern, self.kept_pattern);
         match group {
             Group::Dead => {
                 // "0 or 7: dead streak up by one, at most 2; stray streak
@@ -73,7 +81,7 @@ impl Drive {
             Group::First => {
                 // "Any of 1..6 with none kept: kept; position unchanged; both
                 // streaks zero." "A first pattern gives its sector's middle".
-                self.angle = with_offset(middle_angle(pattern), offset);
+                self.angle = with_offset(layout.middle_angle(pattern), offset);
                 self.kept_pattern = Some(pattern);
                 self.dead_streak = 0;
                 self.stray_streak = 0;
@@ -85,13 +93,14 @@ impl Drive {
             }
             Group::Next | Group::Previous => {
                 // "Next or previous: kept; position plus or minus 1; both
-                // streaks zero." "The position counter runs modulo 2^32."
+                // streaks zero.", the 1 being the width where M-101 has two
+                // sensors. "The position counter runs modulo 2^32."
                 let kept = self
                     .kept_pattern
                     .expect("a step starts from a kept pattern");
-                let step = if group == Group::Next { 1 } else { -1 };
+                let step = layout.step(kept, pattern);
                 self.position = (self.position + step).rem_euclid(1 << 32);
-                self.angle = with_offset(boundary_angle(kept, pattern), offset);
+                self.angle = with_offset(layout.boundary_angle(kept, pattern), offset);
                 self.kept_pattern = Some(pattern);
                 self.dead_streak = 0;
                 self.stray_streak = 0;

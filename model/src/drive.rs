@@ -1,6 +1,8 @@
 //! The drive state, the load call, the answer and the gates.
 
 use crate::flag::Flag;
+use crate::hall::{Layout, THREE_SENSORS};
+use crate::load::Load;
 use crate::settings::Settings;
 use crate::state::State;
 
@@ -10,6 +12,8 @@ use crate::state::State;
 pub struct Drive {
     pub state: State,
     pub settings: Settings,
+    /// What setting 25 chose; it stands beside the 24.
+    pub layout: &'static Layout,
     /// The sixteen flags, bit n of the number being flag n.
     pub flags: i64,
     pub armed: bool,
@@ -85,7 +89,7 @@ pub struct Answer {
 pub enum Refusal {
     /// "cycle or tick field out of range"
     FieldOutOfRange = 1,
-    /// "settings not 24 numbers", or a setting that breaks its rule
+    /// a load of another length, or a setting that breaks its rule
     BadSetting = 2,
     /// "cycle or tick in IDLE"
     InIdle = 3,
@@ -105,11 +109,13 @@ pub struct Reply {
 }
 
 impl Drive {
-    /// "Power-up is IDLE, all zero."
+    /// "Power-up is IDLE, all zero."  Which layout stands there shows in no
+    /// answer: a cycle in IDLE is refused whatever its pattern.
     pub fn power_up() -> Drive {
         Drive {
             state: State::Idle,
             settings: Settings::default(),
+            layout: &THREE_SENSORS,
             flags: 0,
             armed: false,
             retries_used: 0,
@@ -139,14 +145,15 @@ impl Drive {
         if self.state != State::Idle && self.state != State::Stop {
             return self.refuse(Refusal::NotStopped, 0);
         }
-        match Settings::read(numbers) {
+        match Load::read(numbers) {
             Err(place) => self.refuse(Refusal::BadSetting, place),
-            Ok(settings) => {
+            Ok(load) => {
                 // "An accepted load gives STOP and clears everything else to
                 // power-up values: flags, position, pattern, offsets and
                 // arming."
                 let mut next = Drive::power_up();
-                next.settings = settings;
+                next.settings = load.settings;
+                next.layout = load.layout;
                 next.state = State::Stop;
                 next.accept()
             }

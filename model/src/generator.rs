@@ -7,6 +7,7 @@
 //! ends, and every choice in between.
 
 mod choose_cycle;
+mod choose_load;
 mod choose_settings;
 mod choose_tick;
 mod ending;
@@ -15,6 +16,7 @@ mod fault_waits;
 mod mood;
 mod refusals;
 mod slots;
+mod small_pump;
 mod steering;
 mod stillness;
 
@@ -80,6 +82,7 @@ impl Generator {
             self.refused_record_in_idle();
         }
         match seed % 10 {
+            1 => self.small_pumps(),
             2 => self.flux_slots(),
             3 => self.ramps(),
             4 => self.retries_to_the_limit(seed / 10),

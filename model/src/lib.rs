@@ -1,19 +1,21 @@
-//! An independent model of the drive supervisor that document 01 defines.
+//! An independent model of the drive supervisor that document 01 defines,
+//! with the requests of document 02 that have landed (M-101).
 //!
-//! It was written from document 01 (with the readings of `readings.md`) and
-//! from nothing else, so that it can be compared, record for record, with a
-//! program made by others.  It aims at being easy to check against the paper:
-//! wide integers, no sharing of work between rules, each rule once and beside
-//! its sentence.
+//! It was written from these (with the readings of `readings.md` and
+//! `readings-requests.md`) and from nothing else, so that it can be compared,
+//! record for record, with a program made by others.  It aims at being easy to
+//! check against the paper: wide integers, no sharing of work between rules,
+//! each rule once and beside its sentence.
 //!
 //! The parts of the supervisor:
 //! * `settings`  the 24 settings and their rules,
+//! * `load`      what a load brings: settings and sensors,
 //! * `flag`      the flags that have a meaning,
 //! * `state`     the ten states,
 //! * `drive`     the drive state, load, the answer, the gates,
 //! * `fields`    fields of a cycle and a tick: ranges and bytes,
 //! * `cycle`     the cycle call,
-//! * `hall`      Hall groups and angles,
+//! * `hall`      Hall layouts, groups, steps and angles,
 //! * `tick_fields` the fields of a tick: ranges, command, target,
 //! * `tick`      the tick call: move, speed reference,
 //! * `causes`    the causes that set flags,
@@ -36,6 +38,7 @@ pub mod flag;
 pub mod generator;
 pub mod hall;
 pub mod line;
+pub mod load;
 pub mod program;
 pub mod random;
 pub mod reached;
@@ -49,6 +52,7 @@ pub mod written_stream;
 pub use cycle::CycleFields;
 pub use drive::{Answer, Drive, Gate, Pair, Refusal, Reply};
 pub use flag::Flag;
+pub use hall::Layout;
 pub use line::report_line;
 pub use record::Record;
 pub use settings::{Setting, Settings};

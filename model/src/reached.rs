@@ -36,11 +36,14 @@ mod hall;
 mod loads;
 mod moves;
 mod running;
+mod sensors;
 mod thresholds;
 
 use crate::drive::{Answer, Drive};
+use crate::hall::{Layout, TWO_SENSORS};
 use crate::record::{read_head, record_length, Head, Record};
 use crate::state::State;
+use sensors::loaded_by;
 use std::collections::{BTreeMap, BTreeSet};
 
 /// One record with what was before and after it.
@@ -62,6 +65,18 @@ pub struct Watch {
     pub last_exit: LastExit,
     pub low_since_exit: bool,
     pub low_since_load: bool,
+    /// How the settings came, and those before them.
+    pub loaded: Loaded,
+    pub loaded_before: Loaded,
+}
+
+/// By which record the settings came.
+#[derive(Clone, Copy, Debug, Default, PartialEq, Eq)]
+pub enum Loaded {
+    #[default]
+    Nothing,
+    By24,
+    By25(i64),
 }
 
 #[derive(Clone, Copy, Debug, Default, PartialEq, Eq)]
@@ -102,7 +117,7 @@ impl Reached {
                 }
                 Head::Short(letter) => {
                     self.count("records");
-                    self.short_record(letter, drive.state);
+                    self.short_record(letter, rest.len(), drive.state);
                     return;
                 }
                 Head::Whole(record) => {
@@ -121,16 +136,17 @@ impl Reached {
         }
     }
 
-    fn short_record(&mut self, letter: u8, state: State) {
-        let letter = letter as char;
-        self.count(format!("refused 6 at 0: short {letter}"));
+    fn short_record(&mut self, letter: u8, length: usize, state: State) {
+        let loads = letter == b'L' || letter == b'M';
+        let name = format!("refused 6 at 0: short {}", letter as char);
         let loadable = matches!(state, State::Idle | State::Stop);
-        if letter == 'L' && !loadable {
-            self.count("refused 6 at 0: short L where 4 would hold");
-        }
-        if letter != 'L' && state == State::Idle {
+        self.count_if(loads && !loadable, format!("{name} where 4 would hold"));
+        let whole_with_24 = record_length(b'L').is_some_and(|needed| length >= needed);
+        self.count_if(loads && whole_with_24, SHORT_BY_ITS_25TH);
+        if !loads && state == State::Idle {
             self.count("refused 6 at 0: short C or T where 3 would hold");
         }
+        self.count(name);
     }
 
     fn observe(&mut self, seen: &Seen) {
@@ -141,10 +157,15 @@ impl Reached {
             self.observe_refusal(seen);
             return;
         }
+        self.observe_sensors(seen);
         match seen.record {
-            Record::Load(numbers) => {
-                self.observe_load(numbers);
-                self.watch = Watch::default();
+            Record::Load(_) | Record::LoadWithSensors(_) => {
+                self.observe_load(seen.record.numbers().expect("a load has numbers"));
+                self.watch = Watch {
+                    loaded: loaded_by(seen.record),
+                    loaded_before: self.watch.loaded,
+                    ..Watch::default()
+                };
             }
             Record::Cycle(fields) => self.observe_hall(seen, fields),
             Record::Tick(fields) => {
@@ -166,6 +187,11 @@ impl Reached {
                 self.counts.insert(name.to_string(), 1);
             }
         }
+    }
+
+    /// Counts what is listed for each layout.
+    fn count_of(&mut self, layout: &Layout, name: impl AsRef<str>) {
+        self.count(of_layout(layout, name));
     }
 
     /// Counts where the condition holds.
@@ -219,6 +245,18 @@ fn joined(names: Vec<String>) -> String {
     }
 }
 
+/// The name of what is listed for each layout.
+fn of_layout(layout: &Layout, name: impl AsRef<str>) -> String {
+    let two = *layout == TWO_SENSORS;
+    format!(
+        "{}{}",
+        if two { "two sensors: " } else { "" },
+        name.as_ref()
+    )
+}
+
+const SHORT_BY_ITS_25TH: &str = "refused 6 at 0: short M with 24 whole numbers";
+
 /// Everything that streams can reach.
 pub fn list() -> Vec<String> {
     let mut list = Vec::new();
@@ -228,9 +266,12 @@ pub fn list() -> Vec<String> {
         "end between records",
         "refused 6 at 0: unknown letter",
         "refused 6 at 0: short L",
+        "refused 6 at 0: short M",
         "refused 6 at 0: short C",
         "refused 6 at 0: short T",
         "refused 6 at 0: short L where 4 would hold",
+        "refused 6 at 0: short M where 4 would hold",
+        SHORT_BY_ITS_25TH,
         "refused 6 at 0: short C or T where 3 would hold",
     ];
     add_all(&mut list, &of_streams);
@@ -238,6 +279,7 @@ pub fn list() -> Vec<String> {
     flags::add_to_list(&mut list);
     loads::add_to_list(&mut list);
     hall::add_to_list(&mut list);
+    sensors::add_to_list(&mut list);
     thresholds::add_to_list(&mut list);
     running::add_to_list(&mut list);
     faults::add_to_list(&mut list);

@@ -3,6 +3,8 @@
 use crate::cycle::{CycleFields, CYCLE_RULES};
 use crate::drive::{Drive, Reply};
 use crate::fields::{FieldRule, Form};
+use crate::hall::Layout;
+use crate::load::SENSORS_PLACE;
 use crate::settings::SETTINGS;
 use crate::tick_fields::{TickFields, TICK_RULES};
 
@@ -10,6 +12,8 @@ use crate::tick_fields::{TickFields, TICK_RULES};
 pub enum Record {
     /// "L and 24 numbers"
     Load([u16; SETTINGS]),
+    /// M-101: "A program record M carries 25."
+    LoadWithSensors([u16; SENSORS_PLACE]),
     /// "C, pattern byte and two numbers"
     Cycle(CycleFields),
     /// "T, three bytes and eight numbers, in field order"
@@ -32,6 +36,7 @@ pub enum Head {
 pub fn record_length(letter: u8) -> Option<usize> {
     match letter {
         b'L' => Some(1 + SETTINGS * Form::Number.bytes()),
+        b'M' => Some(1 + SENSORS_PLACE * Form::Number.bytes()),
         b'C' => Some(1 + bytes_of(&CYCLE_RULES)),
         b'T' => Some(1 + bytes_of(&TICK_RULES)),
         _ => None,
@@ -55,13 +60,8 @@ pub fn read_head(input: &[u8]) -> Head {
     }
     let bytes = &input[1..length];
     match letter {
-        b'L' => {
-            let mut numbers = [0; SETTINGS];
-            for (number, two) in numbers.iter_mut().zip(bytes.chunks(Form::Number.bytes())) {
-                *number = Form::Number.read(two) as u16;
-            }
-            Head::Whole(Record::Load(numbers))
-        }
+        b'L' => Head::Whole(Record::Load(read_numbers(bytes))),
+        b'M' => Head::Whole(Record::LoadWithSensors(read_numbers(bytes))),
         b'C' => {
             let mut fields = CycleFields::default();
             read_fields(&CYCLE_RULES, bytes, fields.each_mut());
@@ -75,11 +75,25 @@ pub fn read_head(input: &[u8]) -> Head {
     }
 }
 
+fn read_numbers<const N: usize>(bytes: &[u8]) -> [u16; N] {
+    let mut numbers = [0; N];
+    for (number, two) in numbers.iter_mut().zip(bytes.chunks(Form::Number.bytes())) {
+        *number = Form::Number.read(two) as u16;
+    }
+    numbers
+}
+
 fn read_fields<const N: usize>(rules: &[FieldRule; N], bytes: &[u8], fields: [&mut i64; N]) {
     let mut rest = bytes;
     for (rule, field) in rules.iter().zip(fields) {
         *field = rule.form.read(rest);
         rest = &rest[rule.form.bytes()..];
+    }
+}
+
+fn write_numbers(numbers: &[u16], bytes: &mut Vec<u8>) {
+    for number in numbers {
+        Form::Number.write(*number as i64, bytes);
     }
 }
 
@@ -93,6 +107,7 @@ impl Record {
     pub fn letter(&self) -> u8 {
         match self {
             Record::Load(_) => b'L',
+            Record::LoadWithSensors(_) => b'M',
             Record::Cycle(_) => b'C',
             Record::Tick(_) => b'T',
         }
@@ -102,23 +117,29 @@ impl Record {
     pub fn bytes(&self) -> Vec<u8> {
         let mut bytes = vec![self.letter()];
         match self {
-            Record::Load(numbers) => {
-                for number in numbers {
-                    Form::Number.write(*number as i64, &mut bytes);
-                }
-            }
+            Record::Load(numbers) => write_numbers(numbers, &mut bytes),
+            Record::LoadWithSensors(numbers) => write_numbers(numbers, &mut bytes),
             Record::Cycle(fields) => write_fields(&CYCLE_RULES, fields.each(), &mut bytes),
             Record::Tick(fields) => write_fields(&TICK_RULES, fields.each(), &mut bytes),
         }
         bytes
     }
 
-    /// The places of its fields that are out of range, from 1; a load has
-    /// settings, and no fields.
-    pub fn bad_fields(&self) -> Vec<u8> {
+    /// The numbers of a load, 24 or 25; None of another record.
+    pub fn numbers(&self) -> Option<&[u16]> {
         match self {
-            Record::Load(_) => Vec::new(),
-            Record::Cycle(fields) => fields.bad_fields(),
+            Record::Load(numbers) => Some(numbers),
+            Record::LoadWithSensors(numbers) => Some(numbers),
+            Record::Cycle(_) | Record::Tick(_) => None,
+        }
+    }
+
+    /// The places of its fields that are out of range with these sensors,
+    /// from 1; a load has settings, and no fields.
+    pub fn bad_fields(&self, layout: &Layout) -> Vec<u8> {
+        match self {
+            Record::Load(_) | Record::LoadWithSensors(_) => Vec::new(),
+            Record::Cycle(fields) => fields.bad_fields(layout),
             Record::Tick(fields) => fields.bad_fields(),
         }
     }
@@ -127,6 +148,7 @@ impl Record {
     pub fn call(&self, drive: &Drive) -> Reply {
         match self {
             Record::Load(numbers) => drive.load(numbers),
+            Record::LoadWithSensors(numbers) => drive.load(numbers),
             Record::Cycle(fields) => drive.cycle(fields),
             Record::Tick(fields) => drive.tick(fields),
         }

@@ -233,15 +233,10 @@ impl<T> IndexMut<Setting> for PerSetting<T> {
 pub type Settings = PerSetting<i64>;
 
 impl Settings {
-    /// Reads 24 numbers, or gives the place of the refusal with number 2.
-    ///
-    /// "settings not 24 numbers", place 0, is the upper of the two rows with
-    /// number 2, so it is looked at first.
-    pub fn read(numbers: &[u16]) -> Result<Settings, u8> {
-        let Ok(numbers) = numbers.try_into().map(PerSetting) else {
-            return Err(0);
-        };
-        if let Some(broken) = RULES.iter().find(|rule| !rule.keeps(&numbers)) {
+    /// Reads 24 numbers, or gives the place of the first that breaks its
+    /// rule.
+    pub fn read(numbers: &PerSetting<u16>) -> Result<Settings, u8> {
+        if let Some(broken) = RULES.iter().find(|rule| !rule.keeps(numbers)) {
             return Err(broken.setting.place() as u8);
         }
         let mut settings = PerSetting(numbers.0.map(|number| number as i64));

@@ -2,7 +2,7 @@
 
 mod common;
 use common::*;
-use model::hall::{boundary_angle, middle_angle, ANGLES, CLOCKWISE};
+use model::hall::{ANGLES, THREE_SENSORS};
 use model::{State, TickFields};
 
 /// "P1 patterns 1, 3, 2, 3: position 1, angle 10922."
@@ -160,12 +160,12 @@ fn angles_of_the_table() {
 /// The middle of a sector lies 30 degrees past the boundary before it.
 #[test]
 fn middles_and_boundaries_fit_together() {
-    for index in 0..6 {
-        let pattern = CLOCKWISE[index];
-        let previous = CLOCKWISE[(index + 5) % 6];
-        let boundary = boundary_angle(previous, pattern);
-        assert_eq!(boundary, boundary_angle(pattern, previous));
+    for &pattern in THREE_SENSORS.clockwise {
+        let previous = THREE_SENSORS.previous_pattern(pattern);
+        let boundary = THREE_SENSORS.boundary_angle(previous, pattern);
+        assert_eq!(boundary, THREE_SENSORS.boundary_angle(pattern, previous));
         let place = |angle| ANGLES.iter().position(|&entry| entry == angle).unwrap();
-        assert_eq!(place(middle_angle(pattern)), (place(boundary) + 1) % 12);
+        let middle = place(THREE_SENSORS.middle_angle(pattern));
+        assert_eq!(middle, (place(boundary) + 1) % 12);
     }
 }

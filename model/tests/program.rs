@@ -80,6 +80,34 @@ fn bytes_of_the_records() {
     assert_eq!(Record::Load(EXAMPLE).bytes().len(), 49);
 }
 
+/// M-101: "A program record M carries 25."
+#[test]
+fn bytes_of_the_record_m() {
+    let record = Record::LoadWithSensors(with_sensors(&[], 2));
+    let expected = [
+        b"M",
+        &Record::Load(EXAMPLE).bytes()[1..],
+        b"\0\x02".as_slice(),
+    ]
+    .concat();
+    assert_eq!((record.bytes(), expected.len()), (expected.clone(), 51));
+    assert_eq!(
+        model::record::read_head(&expected),
+        model::record::Head::Whole(record)
+    );
+}
+
+/// "a load of 24 numbers means 3": so M with setting 25 = 3 is the same load.
+#[test]
+fn record_m_with_three_sensors_is_l() {
+    let rest = bytes(&[5, 4, 0, 0].map(cycle_record));
+    let by_l = [bytes(&[Record::Load(EXAMPLE)]), rest.clone()].concat();
+    let record = Record::LoadWithSensors(with_sensors(&[], 3));
+    let by_m = [bytes(&[record]), rest].concat();
+    assert_eq!(lines(&by_m), lines(&by_l));
+    assert!(lines(&by_m).ends_with("0 STOP........ 0 8000 +00000 FFFFFFFF -21846\n"));
+}
+
 /// "Input that ends between records adds no line."
 #[test]
 fn input_that_ends_between_records() {
@@ -96,12 +124,15 @@ fn unknown_record_ends_the_run() {
     assert_eq!(lines(&input), format!("0 {STOP}6 {STOP}"));
     assert_eq!(lines(b"X"), format!("6 {IDLE}"));
     assert_eq!(lines(b"\n"), format!("6 {IDLE}"));
+    assert_eq!(lines(b"m"), format!("6 {IDLE}"));
 }
 
 #[test]
 fn short_records_of_each_kind() {
     let start = bytes(&[Record::Load(EXAMPLE)]);
-    for record in [Record::Load(EXAMPLE), cycle_record(1), Record::Tick(low())] {
+    let with_sensors = Record::LoadWithSensors(with_sensors(&[], 2));
+    let load = Record::Load(EXAMPLE);
+    for record in [load, with_sensors, cycle_record(1), Record::Tick(low())] {
         let whole = record.bytes();
         for length in 1..whole.len() {
             let input = [&start, &whole[..length]].concat();
@@ -115,10 +146,12 @@ fn short_records_of_each_kind() {
 fn short_record_makes_no_call() {
     assert_eq!(lines(b"C\x01"), format!("6 {IDLE}"));
     assert_eq!(lines(b"T"), format!("6 {IDLE}"));
-    let mut input = bytes(&[Record::Load(EXAMPLE), Record::Tick(low())]);
-    input.extend(b"L\0\0");
-    let offsetcal = "OFFSETCAL... 0 0000 +00000 00000000 +00000\n";
-    assert_eq!(lines(&input), format!("0 {STOP}0 {offsetcal}6 {offsetcal}"));
+    for short in [b"L\0\0", b"M\0\0"] {
+        let mut input = bytes(&[Record::Load(EXAMPLE), Record::Tick(low())]);
+        input.extend(short);
+        let offsetcal = "OFFSETCAL... 0 0000 +00000 00000000 +00000\n";
+        assert_eq!(lines(&input), format!("0 {STOP}0 {offsetcal}6 {offsetcal}"));
+    }
 }
 
 /// Refusals add a line and the run goes on.

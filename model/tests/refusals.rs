@@ -5,11 +5,11 @@ use common::*;
 use model::state::ALL_STATES;
 use model::{CycleFields, Drive, State, TickFields};
 
-/// "settings not 24 numbers", place 0; any number of them.
+/// M-101: "lengths other than 24 and 25 are 2 at place 0".
 #[test]
 fn load_of_another_length() {
     let idle = Drive::power_up();
-    for length in [0, 1, 23, 25, 1000] {
+    for length in [0, 1, 23, 26, 48, 49, 50, 1000] {
         // Bad numbers throughout: the upper row comes first.
         refused(idle.load(&vec![65535; length]), &idle, 2, 0);
     }
@@ -59,6 +59,8 @@ fn load_in_other_states() {
         } else {
             refused(drive.load(&EXAMPLE), &drive, 4, 0);
             refused(drive.load(&[1, 2, 3]), &drive, 4, 0);
+            refused(drive.load(&with_sensors(&[], 2)), &drive, 4, 0);
+            refused(drive.load(&with_sensors(&[], 4)), &drive, 4, 0);
         }
     }
 }

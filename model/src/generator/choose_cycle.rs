@@ -4,7 +4,7 @@ use super::mood::HallMood;
 use super::Generator;
 use crate::cycle::CycleFields;
 use crate::drive::Pair;
-use crate::hall::{next_pattern, previous_pattern, CLOCKWISE};
+use crate::hall::Group;
 use crate::record::Record;
 
 /// What a cycle does, seen from the kept pattern.
@@ -30,7 +30,7 @@ impl Generator {
         self.cycle_with(pattern)
     }
 
-    fn cycle_with(&mut self, pattern: i64) -> Record {
+    pub(super) fn cycle_with(&mut self, pattern: i64) -> Record {
         let most = self.mood.most_sample;
         let samples = Pair {
             first: self.random.leaning(0, most),
@@ -40,27 +40,23 @@ impl Generator {
     }
 
     /// With no pattern kept, anything but a dead sample is a first pattern.
+    /// Two sensors have no dead sample: a stray one is what is nearest to it.
     fn wished_pattern(&mut self, wish: Wish) -> i64 {
-        let dead = self.random.pick(&[0, 7]);
+        let layout = self.drive.layout;
+        if wish == Wish::Dead && !layout.dead.is_empty() {
+            return self.random.pick(layout.dead);
+        }
         let Some(kept) = self.drive.kept_pattern else {
-            return match wish {
-                Wish::Dead => dead,
-                _ => self.random.pick(&CLOCKWISE),
-            };
+            return self.random.pick(layout.clockwise);
         };
         match wish {
-            Wish::Next => next_pattern(kept),
-            Wish::Previous => previous_pattern(kept),
+            Wish::Next => layout.next_pattern(kept),
+            Wish::Previous => layout.previous_pattern(kept),
             Wish::Same => kept,
-            Wish::Dead => dead,
-            Wish::Stray => {
-                let strays: Vec<i64> = CLOCKWISE
-                    .into_iter()
-                    .filter(|&pattern| {
-                        pattern != kept
-                            && pattern != next_pattern(kept)
-                            && pattern != previous_pattern(kept)
-                    })
+            Wish::Dead | Wish::Stray => {
+                let all = layout.clockwise.iter().copied();
+                let strays: Vec<i64> = all
+                    .filter(|&pattern| layout.group(pattern, Some(kept)) == Group::Stray)
                     .collect();
                 self.random.pick(&strays)
             }
@@ -74,7 +70,7 @@ impl Generator {
             HallMood::Rest => self.wish_by_chances([0, 0, 998, 1]),
             HallMood::Wander => self.wish_by_chances([400, 400, 190, 5]),
             HallMood::Noisy => self.wish_by_chances([120, 120, 160, 300]),
-            HallMood::Any => return self.random.between(0, 7),
+            HallMood::Any => return self.random.between(0, self.drive.layout.most_pattern),
             HallMood::Dead => Wish::Dead,
         };
         self.wished_pattern(wish)

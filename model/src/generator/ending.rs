@@ -1,5 +1,6 @@
 //! How a stream ends: between records, or in an unknown or short record.
 
+use super::choose_load::{load_of, TWO, UNTOLD};
 use super::Generator;
 use crate::record::{record_length, Record};
 use crate::state::State;
@@ -9,6 +10,7 @@ pub enum Ending {
     BetweenRecords,
     UnknownLetter,
     ShortLoad,
+    ShortLoadWithSensors,
     ShortCycle,
     ShortTick,
 }
@@ -24,7 +26,8 @@ impl Ending {
         }
         match seed % 7 {
             0 => Ending::UnknownLetter,
-            1 => Ending::ShortLoad,
+            1 if (seed / 7).is_multiple_of(2) => Ending::ShortLoad,
+            1 => Ending::ShortLoadWithSensors,
             2 => Ending::ShortCycle,
             3 => Ending::ShortTick,
             _ => Ending::BetweenRecords,
@@ -46,8 +49,15 @@ impl Generator {
             Ending::BetweenRecords => {}
             Ending::UnknownLetter => self.finish_unknown(),
             Ending::ShortLoad => {
-                let record = Record::Load(self.good_settings().0);
+                let record = load_of(self.good_settings(), UNTOLD);
                 self.finish_short(record);
+            }
+            Ending::ShortLoadWithSensors => {
+                let record = load_of(self.good_settings(), TWO);
+                // Half of the time an L would be whole.
+                let whole_with_24 = record_length(b'L').expect("L is known") as i64;
+                let least = self.random.pick(&[1, whole_with_24]);
+                self.finish_after(record, least);
             }
             Ending::ShortCycle => {
                 let record = self.cycle_record();
@@ -62,17 +72,22 @@ impl Generator {
 
     /// The letter and some of the other bytes, at least one missing.
     fn finish_short(&mut self, record: Record) {
+        self.finish_after(record, 1);
+    }
+
+    /// So many of a record's bytes at least, and one missing at least.
+    fn finish_after(&mut self, record: Record, least: i64) {
         let bytes = record.bytes();
         let most = bytes.len() as i64 - 1;
-        let kept = self.random.leaning(1, most) as usize;
+        let kept = self.random.leaning(least, most) as usize;
         self.stream.extend_from_slice(&bytes[..kept]);
     }
 
-    /// Any letter but the three; small ones are the likeliest slip.  Half of
+    /// Any letter but the four; small ones are the likeliest slip.  Half of
     /// the time a whole good record follows: number 6 "ends the run", so it
     /// must not be read.
     fn finish_unknown(&mut self) {
-        let mut letter = self.random.pick(b"lctSMX\n\0\xFF");
+        let mut letter = self.random.pick(b"lmctSX\n\0\xFF");
         if self.random.chance(500) {
             letter = self.random.between(0, 255) as u8;
         }
@@ -82,7 +97,7 @@ impl Generator {
         self.stream.push(letter);
         if self.random.chance(500) {
             let record = if self.drive.state == State::Stop {
-                Record::Load(self.good_settings().0)
+                self.good_load()
             } else {
                 self.cycle_record()
             };

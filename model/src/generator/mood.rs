@@ -13,7 +13,7 @@ pub enum HallMood {
     Wander,
     /// Dead and stray samples among the steps.
     Noisy,
-    /// Any of the eight patterns.
+    /// Any of the patterns that the sensors have.
     Any,
     /// Dead samples only; episodes ask for it.
     Dead,

@@ -2,19 +2,20 @@
 
 use super::choose_tick::Command;
 use super::Generator;
-use crate::cycle::CYCLE_RULES;
+use crate::cycle::cycle_rules;
 use crate::fields::{FieldRule, Form};
+use crate::hall::THREE_SENSORS;
 use crate::record::Record;
 use crate::state::State;
 use crate::tick_fields::TICK_RULES;
 
 impl Generator {
     /// A record that will be refused in the present state.  Number 2 at place
-    /// 0 is not possible: a record L always has 24 numbers.
+    /// 0 is not possible: a record L always has 24 numbers, and M 25.
     pub(super) fn refused_record(&mut self) -> Record {
         match self.random.between(0, 9) {
-            0..=3 => self.bad_cycle(),
-            4..=7 => self.bad_tick(),
+            0..=2 => self.bad_cycle(),
+            3..=5 => self.bad_tick(),
             _ => self.refused_load(),
         }
     }
@@ -36,8 +37,9 @@ impl Generator {
         let Record::Cycle(mut fields) = self.cycle_record() else {
             unreachable!("a cycle was asked for");
         };
-        let first = self.random.between(1, CYCLE_RULES.len() as i64);
-        for (place, (rule, field)) in (1..).zip(CYCLE_RULES.iter().zip(fields.each_mut())) {
+        let rules = cycle_rules(self.drive.layout);
+        let first = self.random.between(1, rules.len() as i64);
+        for (place, (rule, field)) in (1..).zip(rules.iter().zip(fields.each_mut())) {
             // Fields after the first bad one are bad now and then.
             if place < first || (place > first && self.random.chance(700)) {
                 continue;
@@ -69,19 +71,20 @@ impl Generator {
         Record::Tick(fields)
     }
 
-    /// Draws for every form of field, whichever this one has: streams of a
-    /// seed are stored, so a field has to cost the same number of draws.
     fn bad_cycle_value(&mut self, rule: &FieldRule) -> i64 {
-        let [any_byte, any_number] = self.beyond(rule);
-        let any = if rule.form == Form::Byte {
-            any_byte
-        } else {
-            any_number
-        };
+        let [any] = self.beyond(rule);
         let (nearest, furthest) = (rule.most + 1, rule.form.ends().1);
-        self.random.pick(&[nearest, nearest, furthest, any])
+        if rule.form != Form::Byte {
+            return self.random.pick(&[nearest, nearest, furthest, any]);
+        }
+        // Two sensors refuse patterns that three have; 8 is of neither.
+        let neither = THREE_SENSORS.most_pattern + 1;
+        let nearby = self.random.between(nearest, neither);
+        self.random.pick(&[nearby, neither, furthest, any])
     }
 
+    /// Draws for every form of field, whichever this one has: streams of a
+    /// seed are stored, so a field has to cost the same number of draws.
     fn bad_tick_value(&mut self, rule: &FieldRule) -> i64 {
         let [any_byte, any_number, any_signed] = self.beyond(rule);
         let (lowest, highest) = rule.form.ends();
@@ -104,15 +107,5 @@ impl Generator {
         let highest = rule.form.ends().1;
         let nearest = (rule.most + 1).min(highest);
         std::array::from_fn(|_| self.random.between(nearest, highest))
-    }
-
-    /// Bad settings; outside IDLE and STOP good ones are refused as well.
-    fn refused_load(&mut self) -> Record {
-        let loadable = matches!(self.drive.state, State::Idle | State::Stop);
-        if !loadable && self.random.chance(500) {
-            return Record::Load(self.good_settings().0);
-        }
-        let setting = self.refusable_setting();
-        Record::Load(self.bad_settings(setting).0)
     }
 }

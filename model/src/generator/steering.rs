@@ -44,7 +44,7 @@ impl Generator {
     fn useful_record(&mut self) -> Record {
         let settings = self.drive.settings;
         match self.drive.state {
-            State::Idle => Record::Load(self.good_settings().0),
+            State::Idle => self.good_load(),
             State::Stop => self.record_in_stop(),
             State::OffsetCal => self.record_awaiting_cycles(settings.offset_cycles()),
             State::BtsCharge => self.record_awaiting_cycles(settings[Setting::BtsChargeTime]),
@@ -204,15 +204,5 @@ impl Generator {
             };
             self.emit(record);
         }
-    }
-
-    /// Loads good settings in which some are given.
-    pub(super) fn load_with(&mut self, given: &[(Setting, u16)]) {
-        self.go_to_stop();
-        let mut settings = self.good_settings();
-        for &(setting, value) in given {
-            settings[setting] = value;
-        }
-        self.emit(Record::Load(settings.0));
     }
 }

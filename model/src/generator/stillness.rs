@@ -1,6 +1,7 @@
 //! Still counts of 4096, and Hall time-outs in MOTORRUN.
 
 use super::choose_cycle::Wish;
+use super::choose_load::{Told, THREE, TWO, UNTOLD};
 use super::choose_tick::Command;
 use super::mood::{HallMood, Mood};
 use super::{all_but, Generator};
@@ -33,14 +34,15 @@ impl Generator {
     }
 
     /// Into MOTORRUN with the shaft at rest; gives the ticks of a time-out.
-    fn rest_in_motor_run(&mut self, fault_enable: u16, hall: HallMood) -> i64 {
+    fn rest_in_motor_run(&mut self, fault_enable: u16, hall: HallMood, told: Told) -> i64 {
         let period = self.random.between(1, 3) as u16;
-        self.load_with(&[
+        let given = [
             (Setting::FaultEnable, fault_enable),
             (Setting::HallTimeoutPeriod, period),
             (Setting::TCatchSpin, 0),
             (Setting::IsPulses, 1),
-        ]);
+        ];
+        self.load_with_sensors(&given, told);
         self.mood = Mood::calm(&mut self.random);
         self.mood.hall = hall;
         self.go_to(State::MotorRun, 1000);
@@ -49,7 +51,8 @@ impl Generator {
 
     /// Bit 14 masked: the cause stands and nothing happens.
     fn masked_time_out(&mut self) {
-        let needed = self.rest_in_motor_run(all_but(Flag::HallTimeOut), HallMood::Rest);
+        let fault_enable = all_but(Flag::HallTimeOut);
+        let needed = self.rest_in_motor_run(fault_enable, HallMood::Rest, UNTOLD);
         self.rest_until_still();
         self.motor_run_ticks(needed + 5);
     }
@@ -71,7 +74,8 @@ impl Generator {
     /// A step ends the run one tick before it would stand; rest begins it
     /// anew.
     fn broken_time_out(&mut self) {
-        let needed = self.rest_in_motor_run(65535, HallMood::Rest);
+        let told = self.random.pick(&[TWO, THREE]);
+        let needed = self.rest_in_motor_run(65535, HallMood::Rest, told);
         self.rest_until_still();
         self.motor_run_ticks(needed - 1);
         let record = self.wished_cycle(Wish::Next);
@@ -85,7 +89,7 @@ impl Generator {
     /// A step and 4096 still cycles between two ticks: the count is looked at
     /// once per tick, so the run goes on.
     fn time_out_over_a_step(&mut self) {
-        let needed = self.rest_in_motor_run(65535, HallMood::Rest);
+        let needed = self.rest_in_motor_run(65535, HallMood::Rest, UNTOLD);
         self.rest_until_still();
         self.motor_run_ticks(needed / 2);
         let record = self.wished_cycle(Wish::Previous);
@@ -96,9 +100,11 @@ impl Generator {
     }
 
     /// Dead samples only, bit 15 masked: the load has zeroed a full count, and
-    /// it grows again with none kept.  A first pattern then ends the run.
+    /// it grows again with none kept.  A first pattern then ends the run.  Only
+    /// three sensors have dead samples.
     fn time_out_of_dead_samples(&mut self) {
-        let needed = self.rest_in_motor_run(all_but(Flag::HallPattern), HallMood::Dead);
+        let fault_enable = all_but(Flag::HallPattern);
+        let needed = self.rest_in_motor_run(fault_enable, HallMood::Dead, UNTOLD);
         self.dead_ticks(needed + 2);
         while self.drive.still_count < FULL_STILL_COUNT && self.left > 0 {
             let record = self.wished_cycle(Wish::Dead);

@@ -1,9 +1,13 @@
 //! Flags raised, that is set where they were not set before.
 
-use super::{states_but_idle, Reached, Seen};
+use super::{of_layout, states_but_idle, Reached, Seen};
 use crate::flag::Flag;
+use crate::hall::LAYOUTS;
 use crate::record::Record;
 use crate::state::State;
+
+const DEAD: &str = "dead samples";
+const STRAY: &str = "stray samples";
 
 pub fn add_to_list(list: &mut Vec<String>) {
     for state in states_but_idle() {
@@ -14,9 +18,14 @@ pub fn add_to_list(list: &mut Vec<String>) {
         for flag in maskable.filter(|flag| flag.can_be_masked()) {
             list.push(name(flag, "tick", false, state));
         }
-        for way in ["dead samples", "stray samples"] {
-            list.push(name(Flag::HallPattern, way, true, state));
-            list.push(name(Flag::HallPattern, way, false, state));
+        for live in [true, false] {
+            list.push(name(Flag::HallPattern, DEAD, live, state));
+            for layout in LAYOUTS {
+                list.push(of_layout(
+                    layout,
+                    name(Flag::HallPattern, STRAY, live, state),
+                ));
+            }
         }
     }
     for flag in Flag::COUNTED {
@@ -48,16 +57,22 @@ impl Reached {
         if raised == 0 {
             return;
         }
+        let layout = seen.before.layout;
         let way = match seen.record {
-            Record::Load(_) => "load",
+            Record::Load(_) | Record::LoadWithSensors(_) => "load",
             Record::Tick(_) => "tick",
-            Record::Cycle(fields) if matches!(fields.pattern, 0 | 7) => "dead samples",
-            Record::Cycle(_) => "stray samples",
+            Record::Cycle(fields) if layout.dead.contains(&fields.pattern) => DEAD,
+            Record::Cycle(_) => STRAY,
         };
         for flag in Flag::ALL.into_iter().filter(|flag| flag.is_in(raised)) {
             let live = flag.is_in(seen.before.settings.live_bits());
             self.count(set_name(flag));
-            self.count(name(flag, way, live, seen.before.state));
+            let name = name(flag, way, live, seen.before.state);
+            if way == STRAY {
+                self.count_of(layout, name);
+            } else {
+                self.count(name);
+            }
         }
     }
 }

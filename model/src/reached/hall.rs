@@ -1,10 +1,12 @@
 //! Hall groups, position, angle, still count and offsets.
+//!
+//! What depends on the layout is listed and counted for each; the names of two
+//! sensors begin with these words.
 
-use super::{add_all, states_but_idle, Reached, Seen};
+use super::{add_all, of_layout, states_but_idle, Reached, Seen};
 use crate::causes::FULL_STILL_COUNT;
 use crate::cycle::CycleFields;
-use crate::hall::{boundary_angle, group, middle_angle, next_pattern, previous_pattern};
-use crate::hall::{Group, CLOCKWISE};
+use crate::hall::{Group, Layout, LAYOUTS};
 use crate::settings::Setting;
 use crate::state::State;
 
@@ -16,17 +18,8 @@ counted_names! {
         DeadWithNoneKept => "hall dead sample with none kept",
         SecondDeadForgets => "hall second dead sample forgets the pattern",
         DeadStreakStays => "hall dead streak stays at 2",
-        ThirdStrayForgets => "hall third stray sample forgets the pattern",
-        LongRunForward => "hall run of 100 steps forward",
-        LongRunBackward => "hall run of 100 steps backward",
-        PositionWrapsUp => "position wraps FFFFFFFF -> 0",
-        PositionWrapsDown => "position wraps 0 -> FFFFFFFF",
-        AngleWrapsAbove => "angle plus offset wraps above 32767",
-        AngleWrapsBelow => "angle plus offset wraps below -32768",
-        StillCountFull => "still count reaches 4096",
         StillCountStaysFull => "still count stays at 4096",
         StillCountWithNoneKept => "still count grows with none kept",
-        StillCountEnded => "still count 4096 ended by a newly kept pattern",
         CycleBeyondN => "offsets: cycle beyond N in OFFSETCAL",
         OffsetCalLeftByTrip => "offsets: OFFSETCAL left by a trip after samples were added",
         OffsetsRoundedDown => "offsets: rounded down",
@@ -34,48 +27,93 @@ counted_names! {
     }
 }
 
+counted_names! {
+    /// Of each layout.
+    Each {
+        ThirdStrayForgets => "hall third stray sample forgets the pattern",
+        LongRunForward => "hall run of 100 steps forward",
+        LongRunBackward => "hall run of 100 steps backward",
+        AngleWrapsAbove => "angle plus offset wraps above 32767",
+        AngleWrapsBelow => "angle plus offset wraps below -32768",
+        StillCountFull => "still count reaches 4096",
+        StillCountEnded => "still count 4096 ended by a newly kept pattern",
+    }
+}
+
 pub fn add_to_list(list: &mut Vec<String>) {
-    for pattern in [0, 7] {
-        list.push(format!("hall dead {pattern}"));
-    }
-    for pattern in CLOCKWISE {
-        list.push(format!("hall first {pattern}"));
-        for other in CLOCKWISE {
-            let group = group(other, Some(pattern));
-            list.push(pair_name(group, pattern, other));
-        }
-    }
-    for group in ["Dead", "Same", "Next", "Previous"] {
-        list.push(format!("hall stray streak of 2 ended by {group}"));
+    for layout in LAYOUTS {
+        let names = names_of(layout);
+        list.extend(names.into_iter().map(|name| of_layout(layout, name)));
     }
     for group in ["First", "Same", "Next", "Previous", "Stray"] {
         list.push(format!("hall dead streak of 1 ended by {group}"));
     }
     list.push("hall dead streak of 2 ended by First".to_string());
-    for state in states_but_idle() {
-        list.push(format!("cycle in {}", state.name()));
-    }
     for prescaler in 0..=7 {
         list.push(format!("offsets: measured with OffsetPsc {prescaler}"));
     }
     add_all(list, Name::ALL);
 }
 
+fn names_of(layout: &Layout) -> Vec<String> {
+    let mut names = Vec::new();
+    for pattern in layout.dead {
+        names.push(format!("hall dead {pattern}"));
+    }
+    for &pattern in layout.clockwise {
+        names.push(format!("hall first {pattern}"));
+        for &other in layout.clockwise {
+            let group = layout.group(other, Some(pattern));
+            names.push(pair_name(group, pattern, other));
+        }
+        names.extend(wraps_after(
+            layout.step(pattern, layout.next_pattern(pattern)),
+        ));
+    }
+    for group in [Group::Dead, Group::Same, Group::Next, Group::Previous] {
+        if group != Group::Dead || !layout.dead.is_empty() {
+            names.push(stray_end_name(group));
+        }
+    }
+    for state in states_but_idle() {
+        names.push(format!("cycle in {}", state.name()));
+    }
+    add_all(&mut names, Each::ALL);
+    names.sort();
+    names.dedup();
+    names
+}
+
 fn pair_name(group: Group, kept: i64, pattern: i64) -> String {
     format!("hall {group:?} {kept} -> {pattern}").to_lowercase()
+}
+
+fn stray_end_name(group: Group) -> String {
+    format!("hall stray streak of 2 ended by {group:?}")
+}
+
+/// Through 0 by a step of this width, upward and downward.
+fn wraps_after(width: i64) -> impl Iterator<Item = String> {
+    let ends = (0..width).map(move |past| ((1 << 32) - width + past, past));
+    ends.flat_map(|(low, high)| [wrap_name(low, high), wrap_name(high, low)])
+}
+
+fn wrap_name(before: i64, after: i64) -> String {
+    format!("position wraps {before:X} -> {after:X}")
 }
 
 impl Reached {
     pub(super) fn observe_hall(&mut self, seen: &Seen, fields: &CycleFields) {
         let (before, after) = (seen.before, seen.after);
-        let pattern = fields.pattern;
-        let group = group(pattern, before.kept_pattern);
-        self.count(format!("cycle in {}", before.state.name()));
-        match (group, before.kept_pattern) {
-            (Group::Dead, _) => self.count(format!("hall dead {pattern}")),
-            (_, None) => self.count(format!("hall first {pattern}")),
-            (_, Some(kept)) => self.count(pair_name(group, kept, pattern)),
-        }
+        let (pattern, layout) = (fields.pattern, before.layout);
+        let group = layout.group(pattern, before.kept_pattern);
+        self.count_of(layout, format!("cycle in {}", before.state.name()));
+        let name = match (group, before.kept_pattern) {
+            (Group::Dead, _) => format!("hall dead {pattern}"),
+            (_, None) => format!("hall first {pattern}"),
+            (_, Some(kept)) => pair_name(group, kept, pattern),
+        };
+        self.count_of(layout, name);
         let none_kept = before.kept_pattern.is_none();
         if group == Group::Dead {
             self.count_if(none_kept, Name::DeadWithNoneKept);
@@ -88,10 +126,12 @@ impl Reached {
             let streak = before.dead_streak;
             self.count(format!("hall dead streak of {streak} ended by {group:?}"));
         }
-        if group == Group::Stray {
-            self.count_if(before.stray_streak == 2, Name::ThirdStrayForgets);
-        } else if before.stray_streak == 2 {
-            self.count(format!("hall stray streak of 2 ended by {group:?}"));
+        if before.stray_streak == 2 {
+            if group == Group::Stray {
+                self.count_of(layout, Each::ThirdStrayForgets);
+            } else {
+                self.count_of(layout, stray_end_name(group));
+            }
         }
         self.observe_steps(seen, group, pattern);
         self.observe_still_count(seen, none_kept);
@@ -118,43 +158,46 @@ impl Reached {
         };
         let long_forward = watch.steps_forward == LONG_RUN;
         let long_backward = watch.steps_backward == LONG_RUN;
-        self.count_if(long_forward, Name::LongRunForward);
-        self.count_if(long_backward, Name::LongRunBackward);
-        self.count_if(
-            group == Group::Next && after.position == 0,
-            Name::PositionWrapsUp,
-        );
-        self.count_if(
-            group == Group::Previous && before.position == 0,
-            Name::PositionWrapsDown,
-        );
+        let layout = before.layout;
+        if long_forward {
+            self.count_of(layout, Each::LongRunForward);
+        }
+        if long_backward {
+            self.count_of(layout, Each::LongRunBackward);
+        }
+        let (from, to) = (before.position, after.position);
+        if (group == Group::Next && to < from) || (group == Group::Previous && to > from) {
+            self.count_of(layout, wrap_name(from, to));
+        }
         let angle = match (group, before.kept_pattern) {
-            (Group::First, _) => middle_angle(pattern),
-            (Group::Next, Some(kept)) => boundary_angle(kept, next_pattern(kept)),
-            (Group::Previous, Some(kept)) => boundary_angle(kept, previous_pattern(kept)),
+            (Group::First, _) => layout.middle_angle(pattern),
+            (Group::Next | Group::Previous, Some(kept)) => layout.boundary_angle(kept, pattern),
             _ => return,
         };
         self.watch.newly_kept_since_tick = true;
         let sum = angle + before.settings[Setting::HallAngleOffset];
-        self.count_if(sum > 32767, Name::AngleWrapsAbove);
-        self.count_if(sum < -32768, Name::AngleWrapsBelow);
+        if sum > 32767 {
+            self.count_of(layout, Each::AngleWrapsAbove);
+        }
+        if sum < -32768 {
+            self.count_of(layout, Each::AngleWrapsBelow);
+        }
     }
 
     fn observe_still_count(&mut self, seen: &Seen, none_kept: bool) {
         let (before, after) = (seen.before.still_count, seen.after.still_count);
-        self.count_if(
-            before < FULL_STILL_COUNT && after == FULL_STILL_COUNT,
-            Name::StillCountFull,
-        );
+        let layout = seen.before.layout;
+        if before < FULL_STILL_COUNT && after == FULL_STILL_COUNT {
+            self.count_of(layout, Each::StillCountFull);
+        }
+        if before == FULL_STILL_COUNT && after == 0 {
+            self.count_of(layout, Each::StillCountEnded);
+        }
         self.count_if(
             before == FULL_STILL_COUNT && after == FULL_STILL_COUNT,
             Name::StillCountStaysFull,
         );
         self.count_if(none_kept && after > before, Name::StillCountWithNoneKept);
-        self.count_if(
-            before == FULL_STILL_COUNT && after == 0,
-            Name::StillCountEnded,
-        );
     }
 
     /// At a tick: what became of OFFSETCAL.

@@ -4,8 +4,8 @@ use super::{states_but_idle, Reached, Seen};
 use crate::cycle::CYCLE_RULES;
 use crate::drive::Refusal;
 use crate::fields::FieldRule;
-use crate::record::Record;
-use crate::settings::{accepted_ends, PerSetting, Relation, Rule, Settings, RULES, SETTINGS};
+use crate::load::Load;
+use crate::settings::{accepted_ends, PerSetting, Relation, Rule, RULES, SETTINGS};
 use crate::state::State;
 use crate::tick_fields::TICK_RULES;
 
@@ -16,6 +16,9 @@ const SECOND_BAD_FIELD: &str = "refused 1 with a second bad field after the firs
 const FIELD_REFUSED_AS_WELL: &str = "refused 3 at 0 where 1 would hold";
 const SETTING_REFUSED_AS_WELL: &str = "refused 4 at 0 where 2 would hold";
 
+/// The letters of the records that load.
+const LOADS: [char; 2] = ['L', 'M'];
+
 pub fn add_to_list(list: &mut Vec<String>) {
     for place in breakable_places(&CYCLE_RULES) {
         list.push(format!("refused 1 at {place} by C"));
@@ -23,17 +26,19 @@ pub fn add_to_list(list: &mut Vec<String>) {
     for place in breakable_places(&TICK_RULES) {
         list.push(format!("refused 1 at {place} by T"));
     }
-    // 0 is missing: L always has 24 numbers.
+    // 0 is missing: L always has 24 numbers, and M 25.
     for rule in RULES.iter().filter(|rule| rule.can_be_broken()) {
         let place = rule.setting.place();
-        list.push(format!("refused 2 at {place} by L in IDLE"));
-        list.push(format!("refused 2 at {place} by L in STOP"));
+        for letter in LOADS {
+            list.push(format!("refused 2 at {place} by {letter} in IDLE"));
+            list.push(format!("refused 2 at {place} by {letter} in STOP"));
+        }
     }
     list.push("refused 3 at 0 by C".to_string());
     list.push("refused 3 at 0 by T".to_string());
     for state in states_but_idle() {
-        if state != State::Stop {
-            list.push(format!("refused 4 at 0 by L in {}", state.name()));
+        for letter in LOADS.iter().filter(|_| state != State::Stop) {
+            list.push(format!("refused 4 at 0 by {letter} in {}", state.name()));
         }
         list.push(format!("refused 1 by C in {}", state.name()));
         list.push(format!("refused 1 by T in {}", state.name()));
@@ -63,6 +68,11 @@ fn breakable_places(rules: &[FieldRule]) -> impl Iterator<Item = usize> + '_ {
 
 fn end_name(rule: &Rule, value: i64) -> String {
     format!("load accepted with {} {value}", rule.name)
+}
+
+/// The 24 settings of a load, whether or not setting 25 follows.
+fn settings_of(numbers: &[u16]) -> PerSetting<u16> {
+    PerSetting(numbers[..SETTINGS].try_into().expect("24 of them"))
 }
 
 /// A relation between two settings, seen at its edge.
@@ -131,8 +141,8 @@ impl Edge {
 }
 
 impl Reached {
-    pub(super) fn observe_load(&mut self, numbers: &[u16; SETTINGS]) {
-        let numbers = PerSetting(*numbers);
+    pub(super) fn observe_load(&mut self, numbers: &[u16]) {
+        let numbers = settings_of(numbers);
         let ends = accepted_ends();
         for rule in &RULES {
             let value = numbers[rule.setting] as i64;
@@ -148,6 +158,7 @@ impl Reached {
     }
 
     pub(super) fn observe_refusal(&mut self, seen: &Seen) {
+        self.observe_refused_sensors(seen);
         let (number, place) = (seen.answer.number, seen.answer.place);
         let state = seen.before.state.name();
         let letter = seen.record.letter() as char;
@@ -155,23 +166,23 @@ impl Reached {
             FIELD_OUT_OF_RANGE => {
                 self.count(format!("refused 1 at {place} by {letter}"));
                 self.count(format!("refused 1 by {letter} in {state}"));
-                let bad = seen.record.bad_fields().len();
+                let bad = seen.record.bad_fields(seen.before.layout).len();
                 self.count_if(bad > 1, SECOND_BAD_FIELD);
             }
             IN_IDLE => {
                 self.count(format!("refused 3 at {place} by {letter}"));
-                let bad = seen.record.bad_fields().len();
+                let bad = seen.record.bad_fields(seen.before.layout).len();
                 self.count_if(bad > 0, FIELD_REFUSED_AS_WELL);
             }
             _ => self.count(format!(
                 "refused {number} at {place} by {letter} in {state}"
             )),
         }
-        if let Record::Load(numbers) = seen.record {
+        if let Some(numbers) = seen.record.numbers() {
             if number == Refusal::NotStopped as u8 {
-                self.count_if(Settings::read(numbers).is_err(), SETTING_REFUSED_AS_WELL);
+                self.count_if(Load::read(numbers).is_err(), SETTING_REFUSED_AS_WELL);
             } else {
-                self.observe_broken_relation(&PerSetting(*numbers), place);
+                self.observe_broken_relation(&settings_of(numbers), place);
             }
         }
     }

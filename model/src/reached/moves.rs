@@ -106,7 +106,7 @@ impl Reached {
             return;
         }
         match seen.record {
-            Record::Load(_) => {
+            Record::Load(_) | Record::LoadWithSensors(_) => {
                 let from = before.state.name();
                 self.count(format!("move by load {from} -> STOP"));
                 self.count_if(

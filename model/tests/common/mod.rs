@@ -20,6 +20,18 @@ pub fn settings_with(changes: &[(Setting, u16)]) -> [u16; 24] {
     settings.0
 }
 
+/// The same with setting 25 behind them.
+pub fn with_sensors(changes: &[(Setting, u16)], sensors: u16) -> [u16; 25] {
+    let mut numbers = [sensors; 25];
+    numbers[..24].copy_from_slice(&settings_with(changes));
+    numbers
+}
+
+/// A drive with two sensors after an accepted load.
+pub fn small_pump(changes: &[(Setting, u16)]) -> Drive {
+    accepted(Drive::power_up().load(&with_sensors(changes, 2)))
+}
+
 /// A drive after an accepted load.
 pub fn loaded(changes: &[(Setting, u16)]) -> Drive {
     let reply = Drive::power_up().load(&settings_with(changes));
@@ -125,7 +137,11 @@ pub fn shown(drive: &Drive) -> Answer {
 
 /// STOP with offsets measured, no low given since the load.
 pub fn measured(changes: &[(Setting, u16)]) -> Drive {
-    let drive = tick(&loaded(changes), &high());
+    measured_from(&loaded(changes))
+}
+
+fn measured_from(loaded: &Drive) -> Drive {
+    let drive = tick(loaded, &high());
     assert_eq!(drive.state, State::OffsetCal);
     let wanted = drive.settings.offset_cycles();
     let drive = tick(&cycles(&drive, 1, wanted), &high());
@@ -143,13 +159,21 @@ pub fn armed(changes: &[(Setting, u16)]) -> Drive {
 /// The drive in one of the states 1 to 9; the settings given may not keep it
 /// from getting there with few cycles and ticks.
 pub fn in_state(state: State, changes: &[(Setting, u16)]) -> Drive {
+    if state == State::Idle {
+        return Drive::power_up();
+    }
+    in_state_from(state, &loaded(changes))
+}
+
+/// The same from a drive that has just been loaded.
+pub fn in_state_from(state: State, loaded: &Drive) -> Drive {
     match state {
-        State::Idle => Drive::power_up(),
-        State::Stop => measured(changes),
-        State::OffsetCal => tick(&loaded(changes), &high()),
-        State::Fault => tick(&measured(changes), &kill()),
+        State::Idle => panic!("a loaded drive is not in IDLE"),
+        State::Stop => measured_from(loaded),
+        State::OffsetCal => tick(loaded, &high()),
+        State::Fault => tick(&measured_from(loaded), &kill()),
         _ => {
-            let mut drive = armed(changes);
+            let mut drive = tick(&measured_from(loaded), &low());
             for _ in 0..100 {
                 drive = tick(&drive, &high());
                 if drive.state == state {
