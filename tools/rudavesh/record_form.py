@@ -1,4 +1,5 @@
-"""The form of a record: its kinds with their letters, fields, sizes, ranges and defaults, as document 01 lays them down.
+"""The form of a record: its kinds with their letters, fields, sizes, ranges and defaults, as document 01 and the requests of 02 that have
+landed lay them down.
 
 A new field is a line in the list of its kind, a new kind one more entry of KINDS; text form, help and expected outputs follow."""
 
@@ -66,6 +67,7 @@ class Kind:
     note: str  # for --help
     fields: Tuple[Field, ...]
     first_alone: bool = False  # its first field may be given without the others
+    wider: Optional["Kind"] = None  # the kind of the same word that has further fields, and that it is where one of these is given
 
     @cached_property  # once for all the records of its kind
     def form(self) -> str:
@@ -93,7 +95,7 @@ class Kind:
 BIT, LEVEL, SPEED, TIME = (0, 1), (0, 4095), (0, 16383), (1, 65535)
 REACH = (-32767, 32767)
 
-LOAD = Kind("load", "L", False, "What is left out takes its default.", (
+SETTINGS = (
     Field("ControlMode", "H", 0, BIT),
     Field("FaultEnable", "H", 65535, None),
     Field("VdcOvLevel", "H", 3000, LEVEL),
@@ -118,9 +120,15 @@ LOAD = Kind("load", "L", False, "What is left out takes its default.", (
     Field("CmdStop", "H", 300, LEVEL, below("CmdStart")),
     Field("CmdGain", "H", 4096, None),
     Field("RetryLimit", "H", 2, (0, 100)),
-))  # fmt: skip
+)  # fmt: skip
+# M-101: "Setting 25 chooses 2 or 3 sensors; a load of 24 numbers means 3. A program record M carries 25."
+SENSORS = Field("sensors", "H", 3, (2, 3), note=", Hall sensors; a load that names it is record M, with 25 numbers")
+LOAD_WITH_SENSORS = Kind("load", "M", False, "What is left out takes its default.", SETTINGS + (SENSORS,))
+LOAD = Kind("load", "L", False, "What is left out takes its default.", SETTINGS, wider=LOAD_WITH_SENSORS)
+# "Refusals: pattern above 3 with two sensors is 1"
+MOST_PATTERN = {3: 7, 2: 3}
 CYCLE = Kind("cycle", "C", True, "What is left out keeps its last value.", (
-    Field("pattern", "B", 1, (0, 7), note="; 'cycle 3' gives the pattern alone"),
+    Field("pattern", "B", 1, (0, MOST_PATTERN[3]), note=f", with two Hall sensors 0..{MOST_PATTERN[2]}; 'cycle 3' gives the pattern alone"),
     Field("first", "H", 2048, LEVEL, note=", first current sample"),
     Field("second", "H", 2048, LEVEL, note=", second current sample"),
 ), first_alone=True)  # fmt: skip
@@ -137,4 +145,19 @@ TICK = Kind("tick", "T", True, "What is left out keeps its last value, clear=1 t
     Field("speed", "h", 0, REACH),
     Field("target", "h", 0, REACH),
 ))  # fmt: skip
+# One for each word of the text form, and all of them.
 KINDS = (LOAD, CYCLE, TICK)
+ALL_KINDS = (LOAD, LOAD_WITH_SENSORS, CYCLE, TICK)
+SIZES = {kind.letter: kind.size for kind in ALL_KINDS}
+
+
+def whole_records(content: bytes) -> List[bytes]:
+    """The records that some bytes begin with; an unknown or a short one ends them."""
+    found, place = [], 0
+    while place < len(content):
+        end = place + SIZES.get(chr(content[place]), len(content) + 1)
+        if end > len(content):
+            break
+        found.append(content[place:end])
+        place = end
+    return found

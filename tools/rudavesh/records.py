@@ -15,8 +15,8 @@ MOST_ERRORS_SHOWN = 20
 def arguments() -> argparse.ArgumentParser:
     """The command line, and its help with a table for each kind of record."""
     tables = [
-        f"\n{kind.word} ({kind.letter}), in order. {kind.note}\n"
-        + "\n".join(f"  {one.name:<18}{one.default:>6}   {one.paper}" for one in kind.fields)
+        f"\n{kind.word} ({' or '.join(one.letter for one in (kind, kind.wider) if one)}), in order. {kind.note}\n"
+        + "\n".join(f"  {one.name:<18}{one.default:>6}   {one.paper}" for one in (kind.wider or kind).fields)
         for kind in KINDS
     ]
     after = "\n".join([DESCRIPTION] + tables)

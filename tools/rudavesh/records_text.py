@@ -6,18 +6,19 @@ import re
 from dataclasses import dataclass, field
 from typing import BinaryIO, Dict, List, NamedTuple, Tuple, Union
 
-from .record_form import KINDS, LIMITS, LOAD, TICK, Kind
+from .record_form import ALL_KINDS, KINDS, LIMITS, LOAD, LOAD_WITH_SENSORS, TICK, Kind
 
 DEEPEST_BLOCK = 16
 PIECE = 65536  # bytes of a repeat that are made and written at once
 COUNT = (1, 1_000_000_000, "repeat")
-KIND_OF_WORD = {word: kind for kind in KINDS for word in (kind.word, kind.letter.lower())}
+KIND_OF_WORD = {**{kind.letter.lower(): kind for kind in ALL_KINDS}, **{kind.word: kind for kind in KINDS}}
 WORDS = [kind.word for kind in KINDS] + ["raw", "repeat"]
 
 # What people read of it in --help.
 DESCRIPTION = f"""The text has one record to a line; '#' begins a comment:
 
-  load ControlMode=1 TCatchSpin=5   settings by name, or all {len(LOAD.fields)} as plain numbers
+  load ControlMode=1 TCatchSpin=5   settings by name, or all {len(LOAD.fields)} as plain numbers: record {LOAD.letter}
+  load sensors=2 TCatchSpin=5       with sensors, or {len(LOAD_WITH_SENSORS.fields)} plain numbers: record {LOAD_WITH_SENSORS.letter}
   cycle 3 2048 2048                 plain numbers, or pattern=3 first=2048 second=2048
   tick command=1 speed=600          by name, or all {len(TICK.fields)} as plain numbers
   raw 58 01                         bytes as they are, in hexadecimal
@@ -28,7 +29,8 @@ DESCRIPTION = f"""The text has one record to a line; '#' begins a comment:
   }}
 
 {', '.join(kind.letter for kind in KINDS[:-1])} and {KINDS[-1].letter} stand for \
-{', '.join(kind.word for kind in KINDS[:-1])} and {KINDS[-1].word}. Case, '_' and '-' in names do not matter.
+{', '.join(kind.word for kind in KINDS[:-1])} and {KINDS[-1].word}, {LOAD_WITH_SENSORS.letter} for a load with sensors.
+Case, '_' and '-' in names do not matter.
 Numbers are decimal or 0x hexadecimal. A value that fits the bytes of its record is
 written even where the paper forbids it: refusing it is the supervisor's work.
 An error is told as FILE:LINE:COLUMN: and leaves standard output empty.
@@ -92,8 +94,9 @@ def read_field(kind: Kind, place: int, word: Word) -> int:
     return read_number(word, one.name, LIMITS[one.form])
 
 
-def read_named(kind: Kind, words: List[Word]) -> Dict[int, int]:
-    places = {plain(one.name): place for place, one in enumerate(kind.fields)}
+def read_named(kind: Kind, words: List[Word]) -> Record:
+    wide = kind.wider or kind
+    places = {plain(one.name): place for place, one in enumerate(wide.fields)}
     given: Dict[int, int] = {}
     for word in words:
         name, equals, value = word.text.partition("=")
@@ -101,23 +104,27 @@ def read_named(kind: Kind, words: List[Word]) -> Dict[int, int]:
             raise TextError(word.column, f"expected NAME=VALUE without spaces, found '{word.text}'")
         place = places.get(plain(name))
         if place is None:
-            raise TextError(word.column, f"{kind.word} has no '{name}'; " + nearest(name, [one.name for one in kind.fields]))
+            raise TextError(word.column, f"{kind.word} has no '{name}'; " + nearest(name, [one.name for one in wide.fields]))
         if place in given:
-            raise TextError(word.column, f"{kind.fields[place].name} is given twice")
-        given[place] = read_field(kind, place, Word(word.column + len(name) + 1, value))
-    return given
+            raise TextError(word.column, f"{wide.fields[place].name} is given twice")
+        given[place] = read_field(wide, place, Word(word.column + len(name) + 1, value))
+    return Record(wide if any(place >= len(kind.fields) for place in given) else kind, given)
 
 
-def read_plain(kind: Kind, words: List[Word], end: int) -> Dict[int, int]:
+def read_plain(kind: Kind, words: List[Word], end: int) -> Record:
     for word in words:
         if "=" in word.text:
             raise TextError(word.column, "plain numbers and NAME=VALUE cannot be mixed")
+    wide = kind.wider or kind
+    if len(words) == len(wide.fields):
+        kind = wide
     wanted = len(kind.fields)
     if len(words) != wanted and not (kind.first_alone and len(words) == 1):
-        surplus = words[wanted:]
+        surplus = words[len(wide.fields) :]
         at = surplus[0].column if surplus else end
-        raise TextError(at, f"{kind.word} takes {wanted} plain numbers in order, found {len(words)}")
-    return {place: read_field(kind, place, word) for place, word in enumerate(words)}
+        more = f", or {len(wide.fields)} with {wide.fields[-1].name}" if wide is not kind else ""
+        raise TextError(at, f"{kind.word} takes {wanted} plain numbers in order{more}, found {len(words)}")
+    return Record(kind, {place: read_field(kind, place, word) for place, word in enumerate(words)})
 
 
 def read_raw(words: List[Word], end: int) -> bytes:
@@ -138,8 +145,8 @@ def read_step(words: List[Word], end: int) -> Union[Record, bytes]:
     kind = KIND_OF_WORD.get(first.text.lower())
     if kind is not None:
         if rest and re.match("[+-]?[0-9]", rest[0].text):
-            return Record(kind, read_plain(kind, rest, end))
-        return Record(kind, read_named(kind, rest))
+            return read_plain(kind, rest, end)
+        return read_named(kind, rest)
     if first.text.lower() == "raw":
         return read_raw(rest, end)
     known = [word for word in WORDS if word != first.text]

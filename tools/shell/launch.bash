@@ -20,8 +20,8 @@ Exit status: 0 it ran to its end, or until whoever reads its lines had enough;
 LOOK=64
 
 # Looks at standard input until it shows what it is, and leaves that in `kind` (bytes, text, utf16) and what was read in `front`, as
-# printf takes it. Every accepted record has a control byte behind its letter that no text has: below 9, or the 24 of a load by N. So two
-# bytes tell a record that the supervisor accepts, and nobody waits for more. Else the first line is read, LOOK bytes at most.
+# printf takes it. Every accepted record has a control byte behind its letter that no text has: below 9, or the 24 or 25 of a load by N.
+# So two bytes tell a record that the supervisor accepts, and nobody waits for more. Else the first line is read, LOOK bytes at most.
 look() {
     local LC_ALL=C byte code digits='' count=0 control='' comment=''
     front='' kind=''

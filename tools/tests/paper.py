@@ -1,4 +1,4 @@
-"""Records and lines in the paper's numbers, typed from document 01: what the tests hold the package to takes nothing from it."""
+"""Records and lines in the paper's numbers, typed from documents 01 and 02: what the tests hold the package to takes nothing from it."""
 
 import struct
 
@@ -16,6 +16,11 @@ TICK_FIELDS = ["gate_kill", "clear", "command", "control", "VdcRaw", "VdcFilt", 
 
 def load(*values: int) -> bytes:
     return b"L" + struct.pack(">9Hh14H", *values)
+
+
+def load_with_sensors(*values: int) -> bytes:
+    """M-101: "A program record M carries 25." """
+    return b"M" + struct.pack(">9Hh15H", *values)
 
 
 def cycle(*values: int) -> bytes:

@@ -5,22 +5,34 @@ import unittest
 from rudavesh import line_form, places, record_form, strip
 from rudavesh.expected.shiftline_example import OUTPUT
 
-from .paper import PAPER_LOAD, SETTINGS, TICK_FIELDS, cycle, line, load, tick
+from .paper import PAPER_LOAD, SETTINGS, TICK_FIELDS, cycle, line, load, load_with_sensors, tick
 
 
 class RecordForm(unittest.TestCase):
     def test_kinds_as_the_paper_has_them(self):
-        self.assertEqual([(kind.letter, kind.size) for kind in record_form.KINDS], [("L", 49), ("C", 6), ("T", 20)])
+        self.assertEqual([(kind.letter, kind.size) for kind in record_form.ALL_KINDS], [("L", 49), ("M", 51), ("C", 6), ("T", 20)])
         self.assertEqual([one.name for one in record_form.LOAD.fields], SETTINGS)
+        self.assertEqual([one.name for one in record_form.LOAD_WITH_SENSORS.fields], [*SETTINGS, "sensors"])
         self.assertEqual([one.name for one in record_form.TICK.fields], TICK_FIELDS)
 
     def test_bytes(self):
         self.assertEqual(record_form.LOAD.packed(*record_form.LOAD.defaults), load(*PAPER_LOAD))
+        with_sensors = record_form.LOAD_WITH_SENSORS
+        self.assertEqual(with_sensors.packed(*with_sensors.defaults), load_with_sensors(*PAPER_LOAD, 3))
         self.assertEqual(record_form.CYCLE.packed(3, 1, 2), cycle(3, 1, 2))
         self.assertEqual(record_form.TICK.packed(*record_form.TICK.defaults), tick())
 
+    def test_records_are_told_apart(self):
+        records = [load(*PAPER_LOAD), load_with_sensors(*PAPER_LOAD, 2), cycle(3, 1, 2), tick()]
+        whole = b"".join(records)
+        self.assertEqual(record_form.whole_records(whole), records)
+        self.assertEqual(record_form.whole_records(whole[:-1]), records[:-1])
+        self.assertEqual(record_form.whole_records(records[1][:-1]), [])
+        self.assertEqual(record_form.whole_records(records[1] + b"X" + whole), records[1:2])
+        self.assertEqual(record_form.whole_records(b""), [])
+
     def test_a_default_keeps_its_rule_and_a_relation_names_a_setting(self):
-        for kind in record_form.KINDS:
+        for kind in record_form.ALL_KINDS:
             values = dict(zip((one.name for one in kind.fields), kind.defaults))
             for one in kind.fields:
                 self.assertTrue(one.allows(one.default), one.name)

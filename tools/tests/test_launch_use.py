@@ -11,7 +11,7 @@ from pathlib import Path
 
 from .commands import TIMEOUT
 from .launcher_case import Case, write
-from .paper import PAPER_LOAD, cycle, load, tick
+from .paper import PAPER_LOAD, cycle, load, load_with_sensors, tick
 
 TEXT = b"tick speed=600\n"
 RECORD = tick(speed=600)
@@ -98,7 +98,8 @@ class Input(Case):
 
     def test_no_accepted_record_is_taken_for_text_and_it_comes_through_whole(self):
         blanks = tick(0, 0, 0, *8 * [0x2020])
-        loads = (load(*PAPER_LOAD), load(0, *23 * [0x2020]), b"N\x18" + 24 * b"  ")
+        loads = (load(*PAPER_LOAD), load(0, *23 * [0x2020]), load_with_sensors(0, *24 * [0x2020]))
+        loads += (b"N\x18" + 24 * b"  ", b"N\x19" + 25 * b"  ")
         cycles = (cycle(pattern, 0x2020, 0x0A0A) for pattern in (0, 7))
         for content in (*loads, *cycles, blanks, b"", b"X", b"X\x01", b"T\xff" + 18 * b" ", b"\xc3\xa9", bytes(range(256))):
             self.assertEqual(self.run_it("shiftline", given=content).stdout, content)

@@ -6,7 +6,7 @@ import unittest
 from pathlib import Path
 
 from .commands import run
-from .paper import PAPER_LOAD, SETTINGS, TICK_FIELDS, cycle, load, tick
+from .paper import PAPER_LOAD, SETTINGS, TICK_FIELDS, cycle, load, load_with_sensors, tick
 from .records_case import Case
 
 
@@ -32,6 +32,28 @@ class RecordBytes(Case):
             values[place] = 4660 + place
             self.assertEqual(self.written(f"load {name}={4660 + place}"), load(*values), name)
 
+    def test_a_load_that_names_sensors_is_record_m(self):
+        self.assertEqual(self.written("load sensors=2"), load_with_sensors(*PAPER_LOAD, 2))
+        self.assertEqual(self.written("load sensors=3"), load_with_sensors(*PAPER_LOAD, 3))
+        self.assertEqual(self.written("L Sensors=65535 ControlMode=1"), load_with_sensors(1, *PAPER_LOAD[1:], 65535))
+        self.assertEqual(self.written("load"), load(*PAPER_LOAD))
+        # A load keeps nothing: the next one is an L again.
+        self.assertEqual(self.written("load sensors=2\nload\nrepeat 2 load sensors=2"),
+                         load_with_sensors(*PAPER_LOAD, 2) + load(*PAPER_LOAD) + 2 * load_with_sensors(*PAPER_LOAD, 2))
+
+    def test_25_plain_numbers_are_record_m_and_m_is_always_one(self):
+        numbers = " ".join(map(str, PAPER_LOAD))
+        self.assertEqual(self.written(f"load {numbers} 2"), load_with_sensors(*PAPER_LOAD, 2))
+        self.assertEqual(self.written(f"load {numbers}"), load(*PAPER_LOAD))
+        self.assertEqual(self.written(f"M {numbers} 4\nm\nm sensors=2"), load_with_sensors(*PAPER_LOAD, 4)
+                         + load_with_sensors(*PAPER_LOAD, 3) + load_with_sensors(*PAPER_LOAD, 2))
+
+    def test_each_setting_of_record_m_lands_in_its_place(self):
+        for place, name in enumerate([*SETTINGS, "sensors"]):
+            values = [*PAPER_LOAD, 3]
+            values[place] = 4660 + place
+            self.assertEqual(self.written(f"M {name}={4660 + place}"), load_with_sensors(*values), name)
+
     def test_each_tick_field_lands_in_its_place(self):
         starting = [0, 0, 0, 0, 2623, 2623, 1000, 2048, 0, 0, 0]
         for place, name in enumerate(TICK_FIELDS):
@@ -47,11 +69,12 @@ class RecordBytes(Case):
             return chance.choice([str(value), hex(value), f"{value:+d}"])
 
         for _ in range(300):
-            kind = chance.choice("LCT")
-            if kind == "L":
-                values = [chance.randrange(65536) for _ in range(24)]
+            kind = chance.choice("LMCT")
+            if kind in "LM":
+                values = [chance.randrange(65536) for _ in range(24 + (kind == "M"))]
                 values[9] -= 32768
-                names, expected = SETTINGS, expected + load(*values)
+                names, written = ([*SETTINGS, "sensors"], load_with_sensors) if kind == "M" else (SETTINGS, load)
+                expected += written(*values)
             elif kind == "C":
                 values = [chance.randrange(256)] + [chance.randrange(65536) for _ in range(2)]
                 names, expected = ["pattern", "first", "second"], expected + cycle(*values)

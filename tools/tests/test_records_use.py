@@ -44,7 +44,12 @@ class Errors(Case):
         ("tick 1 2 3   # few", 1, 11, "tick takes 11 plain numbers in order, found 3"),
         ("cycle 1 2 3 4", 1, 13, "cycle takes 3 plain numbers in order, found 4"),
         ("cycle 1 2", 1, 10, "cycle takes 3 plain numbers in order, found 2"),
-        ("load" + " 1" * 25, 1, 54, "load takes 24 plain numbers in order, found 25"),
+        ("load" + " 1" * 23, 1, 51, "load takes 24 plain numbers in order, or 25 with sensors, found 23"),
+        ("load" + " 1" * 26, 1, 56, "load takes 24 plain numbers in order, or 25 with sensors, found 26"),
+        ("M" + " 1" * 24, 1, 50, "load takes 25 plain numbers in order, found 24"),
+        ("load sensrs=2", 1, 6, "load has no 'sensrs'; nearest: sensors"),
+        ("load sensors=2 sensors=3", 1, 16, "sensors is given twice"),
+        ("load sensors=65536", 1, 14, "sensors 65536 does not fit two bytes: 0 to 65535"),
         ("repeat", 1, 7, "repeat needs a count"),
         ("repeat 3", 1, 9, "repeat needs a count and a record"),
         ("repeat x tick", 1, 8, "'x' is not a number"),
@@ -96,8 +101,9 @@ class Use(Case):
         done = run("records", "", "--help")
         self.assertEqual(done.returncode, 0)
         found = dict(re.findall(r"^  (\w+) +(-?\d+)   \S", done.stdout.decode(), re.MULTILINE))
-        for name, default in zip(SETTINGS, PAPER_LOAD):
+        for name, default in zip([*SETTINGS, "sensors"], [*PAPER_LOAD, 3]):
             self.assertEqual(found[name], str(default), name)
+        self.assertIn("load (L or M), in order.", done.stdout.decode())
         self.assertEqual([found[name] for name in TICK_FIELDS],
                          ["0", "0", "0", "0", "2623", "2623", "1000", "2048", "0", "0", "0"])
 

@@ -1,6 +1,6 @@
 """What the program benchline reads and must print: each refusal in each state, a generated stream, longer than one read, loads of any
-length, and records in the readable text form; their lines by the independent model. Of the refusals document 01's own tables say
-number and place, too."""
+length, and records in the readable text form; their lines by the independent model. Of the refusals the tables of document 01, and M-101
+of document 02, say number and place, too."""
 
 import io
 
@@ -12,8 +12,8 @@ from .refusals import cases, numbered
 
 GOOD = list(LOAD.defaults)
 
-# Every length that is near a rule of lengths, a setting that breaks its rule, and a load of 24 good numbers.
-LOADS = [[], GOOD[:1], GOOD[:23], GOOD + [0], (GOOD * 11)[:255], [2, *GOOD[1:]], GOOD]
+# Every length that is near a rule of lengths, a setting that breaks its rule, and loads of 24 and 25 good numbers.
+LOADS = [[], GOOD[:1], GOOD[:23], GOOD + [0], GOOD + [2, 2], (GOOD * 11)[:255], [2, *GOOD[1:]], GOOD + [2], GOOD + [3], GOOD]
 
 # What the line of shiftline does not show: places, and two offsets that differ. A retry would take 10,000 ticks: `tools/compare` has them.
 TEXT = """
@@ -28,10 +28,28 @@ load VdcOvLevel=4096          # refused with 4 before 2
 tick clear=1 gate_kill=0 temperature=1000
                               # STOP
 load VdcOvLevel=4096          # refused with 2: place 3
+load sensors=4 RetryLimit=101 # refused with 2: place 24 before 25
+load sensors=4                # refused with 2: place 25
+load sensors=2 OffsetPsc=7
+cycle 1                       # a turn of six counts, and two sectors back
+cycle 3
+cycle 2
+cycle 0
+cycle 1
+cycle 0
+cycle 2
+cycle 4                       # refused with 1: place 1
+repeat 2 cycle 1
+cycle 1                       # flag 15: three strays
+tick gate_kill=0 clear=0      # FAULT
+tick clear=1                  # STOP: no cause stands
+load                          # three sensors again
+repeat 2 cycle 0              # flag 15: two dead samples
 """
 
-# The generated stream comes after the refusals, from STOP, and ends between two records with the motor running.
-SEED, RECORDS = 11, 600
+# The generated stream comes after the refusals, from STOP, and ends between two records with the gates on. Its seed is of the generator's
+# theme of motors with two sensors.
+SEED, RECORDS = 321, 600
 STOPPED = "tick gate_kill=1 VdcRaw=0\ntick clear=1 gate_kill=0 VdcRaw=0"
 
 # A load that the input cuts short ends the run.
@@ -57,6 +75,7 @@ def records() -> bytes:
 def files() -> Files:
     made = records()
     lines = model.bench_lines(made)
+    assert b"?" not in model.bench_lines(made[: -len(SHORT)]), f"what seed {SEED} generates does not end between two records"
     for number, (case, line) in enumerate(zip(cases(), lines.decode("ascii").splitlines()), 1):
-        assert f"{line} ".startswith(f"{case.line} "), f"record {number}: the tables of document 01 say {case.line}, the model {line}"
+        assert f"{line} ".startswith(f"{case.line} "), f"record {number}: the tables of the paper say {case.line}, the model {line}"
     return {"stdin": made, "stdout": lines}

@@ -1,14 +1,17 @@
-"""Records that give each refusal of load, cycle and tick once and more, in every state, and number and place of each, worked out from
-document 01's refusals, settings and fields. They are the beginning of what the program benchline reads: it shows the places."""
+"""Records that give each refusal of load, cycle and tick once and more, in every state and with either number of Hall sensors, and number
+and place of each, worked out from document 01's refusals, settings and fields and from M-101 of document 02. They are the beginning of what
+the program benchline reads: it shows the places."""
 
-from typing import Iterator, List, NamedTuple, Sequence
+from typing import Iterator, List, NamedTuple, Sequence, Tuple
 
-from ..record_form import CYCLE, LOAD, TICK, Field, Kind
+from ..record_form import CYCLE, LOAD, LOAD_WITH_SENSORS, MOST_PATTERN, TICK, Field, Kind
 
 SIXTEEN_BITS = range(65536)
 # The paper's example, but for a CriticalOvLevel that leaves VdcOvLevel its whole range.
 GOOD = [4095 if one.name == "CriticalOvLevel" else one.default for one in LOAD.fields]
 BAD = [2, *GOOD[1:]]
+# "Setting 25 chooses 2 or 3 sensors; a load of 24 numbers means 3."
+OF_TWO, OF_THREE = [*GOOD, 2], [*GOOD, 3]
 STILL = [1, 0, 0]
 # A tick that raises no flag.
 QUIET = TICK.defaults
@@ -21,9 +24,13 @@ class Case(NamedTuple):
     line: str
 
 
+def in_bytes(numbers: Sequence[int]) -> bytes:
+    return b"".join(number.to_bytes(2, "big") for number in numbers)
+
+
 def numbered(numbers: Sequence[int]) -> bytes:
     """A load of so many numbers: "N | count (1 byte), then so many numbers"."""
-    return bytes([ord("N"), len(numbers)]) + b"".join(number.to_bytes(2, "big") for number in numbers)
+    return bytes([ord("N"), len(numbers)]) + in_bytes(numbers)
 
 
 def keeps_rule(settings: List[int], field: Field, value: int) -> bool:
@@ -33,19 +40,35 @@ def keeps_rule(settings: List[int], field: Field, value: int) -> bool:
 
 
 def load(state: str, numbers: List[int]) -> Case:
-    places = enumerate(zip(LOAD.fields, numbers), 1)
+    places = enumerate(zip(LOAD_WITH_SENSORS.fields, numbers), 1)
     if state not in ("IDLE", "STOP"):
         line = "4 0"
-    elif len(numbers) != len(LOAD.fields):
-        line = "2 0"
+    elif len(numbers) not in (len(LOAD.fields), len(LOAD_WITH_SENSORS.fields)):
+        line = "2 0"  # "lengths other than 24 and 25 are 2 at place 0"
     else:
         line = next((f"2 {place}" for place, (field, value) in places if not keeps_rule(numbers, field, value)), "0 0")
     return Case(numbered(numbers), line)
 
 
-def call(state: str, kind: Kind, values: List[int]) -> Case:
+def load_by_m(state: str, numbers: List[int]) -> Case:
+    """The same load of 25 numbers by the record that always has so many."""
+    assert len(numbers) == len(LOAD_WITH_SENSORS.fields)
+    return Case(LOAD_WITH_SENSORS.letter.encode() + in_bytes(numbers), load(state, numbers).line)
+
+
+def range_of(field: Field, sensors: int) -> Tuple[int, int]:
+    """The range of a field: of the pattern, "above 3 with two sensors is 1"."""
+    return (0, MOST_PATTERN[sensors]) if field.name == "pattern" else field.range
+
+
+def allows(field: Field, value: int, sensors: int) -> bool:
+    least, most = range_of(field, sensors)
+    return least <= value <= most
+
+
+def call(state: str, kind: Kind, values: List[int], sensors: int = 3) -> Case:
     places = enumerate(zip(kind.fields, values), 1)
-    refused = next((f"1 {place}" for place, (field, value) in places if not field.allows(value)), "0 0")
+    refused = next((f"1 {place}" for place, (field, value) in places if not allows(field, value, sensors)), "0 0")
     return Case(kind.packed(*values), "3 0" if state == "IDLE" else refused)
 
 
@@ -73,29 +96,57 @@ WALK = (
 )
 
 
-def in_state(state: str, number: int) -> Iterator[Case]:
+def in_state(state: str, number: int, sensors: int) -> Iterator[Case]:
     """What a state refuses, and that it is the state which the answers show."""
-    for case in (load(state, BAD), load(state, GOOD[:-1]), call(state, CYCLE, put(STILL, 1, 8)), call(state, TICK, put(QUIET, 1, 2))):
+    cases = [load(state, numbers) for numbers in (BAD, GOOD[:-1], [*GOOD, 1], [*BAD, 4], [*OF_TWO, 2])]
+    cases += [load_by_m(state, numbers) for numbers in ([*GOOD, 0], [*GOOD, 4], [*BAD, 4])]
+    # Of both kinds of motor, the first pattern that it lacks, also where a sample is bad as well.
+    lacking = MOST_PATTERN[sensors] + 1
+    cases += [call(state, CYCLE, values, sensors) for values in (put(STILL, 1, lacking), [lacking, 4096, 4096], put(STILL, 1, 8))]
+    for case in [*cases, call(state, TICK, put(QUIET, 1, 2))]:
         yield Case(case.record, f"{case.line} {number}")
 
 
-def states() -> Iterator[Case]:
-    yield from in_state("IDLE", 0)
-    for state, kind, values in (("IDLE", CYCLE, STILL), ("IDLE", TICK, QUIET)):
-        yield call(state, kind, values)
-    yield load("IDLE", GOOD)
+def walk(sensors: int, numbers: List[int]) -> Iterator[Case]:
+    """From STOP, just loaded, through every state and back."""
     for state, number, cycles, leaving in WALK:
-        yield from in_state(state, number)
-        if state not in ("IDLE", "STOP"):
-            yield load(state, GOOD)
-        yield from [call(state, CYCLE, STILL)] * cycles
+        yield from in_state(state, number, sensors)
+        if state != "STOP":
+            yield load(state, numbers)
+            yield load_by_m(state, OF_TWO)
+        yield from [call(state, CYCLE, STILL, sensors)] * cycles
         yield call(state, TICK, leaving)
+
+
+def states() -> Iterator[Case]:
+    yield from in_state("IDLE", 0, 3)
+    for kind, values in ((CYCLE, STILL), (CYCLE, put(STILL, 1, 4)), (TICK, QUIET)):
+        yield call("IDLE", kind, values)
+    for state, sensors, numbers in (("IDLE", 3, GOOD), ("STOP", 2, OF_TWO)):
+        yield load(state, numbers)
+        yield from walk(sensors, numbers)
     yield load("STOP", GOOD)
+
+
+def motors() -> Iterator[Case]:
+    """Loads of either length after each, and the patterns that tell what was loaded."""
+    for sensors, case in (
+        (2, load("STOP", OF_TWO)),
+        (3, load("STOP", GOOD)),
+        (2, load_by_m("STOP", OF_TWO)),
+        (3, load_by_m("STOP", OF_THREE)),
+        (3, load("STOP", GOOD)),
+        (2, load("STOP", OF_TWO)),
+        (3, load("STOP", OF_THREE)),
+    ):
+        yield case
+        for pattern in range(9):
+            yield call("STOP", CYCLE, put(STILL, 1, pattern), sensors)
 
 
 def each_setting() -> Iterator[Case]:
     """The least and the greatest value that is accepted, and one beyond each, where 16 bits hold it."""
-    for place, field in enumerate(LOAD.fields, 1):
+    for place, field in enumerate(LOAD_WITH_SENSORS.fields, 1):
         # The other rules do not look at this setting, and hold of GOOD.
         looking = [one for one in LOAD.fields if one.relation and one.relation.other == field.name]
         accepted = [value for value in SIXTEEN_BITS if keeps_rule(GOOD, field, value)]
@@ -109,36 +160,44 @@ def each_setting() -> Iterator[Case]:
                 yield load("STOP", put(GOOD, place, value))
 
 
-def several_settings() -> Iterator[Case]:
+def several_settings(good: List[int]) -> Iterator[Case]:
     """Every setting from a place on refused, where it can be."""
-    numbers = GOOD
-    for place in range(len(GOOD), 0, -1):
-        refused = [value for value in (65535, 0) if not LOAD.fields[place - 1].allows(value)]
+    numbers = good
+    for place in range(len(good), 0, -1):
+        refused = [value for value in (65535, 0) if not LOAD_WITH_SENSORS.fields[place - 1].allows(value)]
         numbers = put(numbers, place, refused[0]) if refused else numbers
         yield load("STOP", numbers)
 
 
 def sizes() -> Iterator[Case]:
     for size in range(31):
-        yield load("STOP", (GOOD + [0] * 6)[:size])
-        yield load("STOP", (BAD + [0] * 6)[:size])
+        for numbers in (OF_TWO, GOOD, BAD):
+            yield load("STOP", (numbers + [0] * 7)[:size])
 
 
-def fields_of(kind: Kind, good: List[int]) -> Iterator[Case]:
+def fields_of(kind: Kind, good: List[int], sensors: int) -> Iterator[Case]:
     """Each field at the ends of its range, and beyond them where its bytes hold it; then every field from a place on out of its range."""
     for place, field in enumerate(kind.fields, 1):
-        (least, most), (lowest, highest) = field.range, field.held
+        (least, most), (lowest, highest) = range_of(field, sensors), field.held
         for value in (least - 1, least, most, most + 1, lowest):
             if lowest <= value <= highest:
-                yield call("STOP", kind, put(good, place, value))
+                yield call("STOP", kind, put(good, place, value), sensors)
     numbers = good
     for place in range(len(kind.fields), 0, -1):
         field = kind.fields[place - 1]
         refused = [value for value in (field.held[1], field.held[0]) if not field.allows(value)]
         numbers = put(numbers, place, refused[0]) if refused else numbers
-        yield call("STOP", kind, numbers)
+        yield call("STOP", kind, numbers, sensors)
+
+
+def fields() -> Iterator[Case]:
+    for sensors, numbers in ((2, OF_TWO), (3, GOOD)):
+        yield load("STOP", numbers)
+        yield from fields_of(CYCLE, STILL, sensors)
+    yield from fields_of(TICK, list(QUIET), sensors=3)
 
 
 def cases() -> List[Case]:
     """From power-up on. The fields come last: an accepted tick leaves STOP, where no load would be refused as it is here."""
-    return [*states(), *each_setting(), *several_settings(), *sizes(), *fields_of(CYCLE, STILL), *fields_of(TICK, list(QUIET))]
+    settings = [*each_setting(), *several_settings(GOOD), *several_settings(OF_THREE), *sizes()]
+    return [*states(), *motors(), *settings, *fields()]

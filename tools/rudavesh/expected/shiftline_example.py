@@ -1,9 +1,9 @@
 """What the program shiftline reads and must print. First document 01's own example: its input, made from the paper's numbers, and its
-output, typed from the paper. Behind it a shaft that turns on, for more bytes than the program reads at once, then an unknown record with
-whole ones after it, and the lines that the paper's rules give for these."""
+output, typed from the paper. Behind it a shaft that turns on, for more bytes than the program reads at once, a small pump with two Hall
+sensors (M-101), then an unknown record with whole ones after it, and the lines that the paper's rules give for these."""
 
 from ..line_form import Report, written
-from ..record_form import CYCLE, LOAD, TICK
+from ..record_form import CYCLE, LOAD, LOAD_WITH_SENSORS, TICK
 from . import Files
 
 # The paper's settings are what a load of the text form takes by default, and so are the fields of its tick.
@@ -43,11 +43,39 @@ def turned(step: int, number: int = 0) -> str:
 TURNING = b"".join(CYCLE.packed(TURN[step % 6][0], 0, 0) for step in range(STEPS))
 TURNED = "".join(turned(step) for step in range(STEPS))
 
+
+def stopped(number: int, position: int, angle: int) -> str:
+    """The line of a record in STOP with nothing live."""
+    return written(Report(number, "STOP", 0, 0, 0, position, angle))
+
+
+# M-101: a record M is refused with 4 in FAULT; after a clear it brings a motor with two sensors. "the clockwise order is 1, 3, 2, 0",
+# "A clockwise step adds the width of the sector left", 2, 1, 2 and 1, and its angle is the end of that sector, 0, 60, 180 and 240 degrees:
+# k = 0, 2, 6, 8. The first pattern gives its middle, -60 degrees, k = 10. "pattern above 3 with two sensors is 1".
+TWO_SENSORS = LOAD_WITH_SENSORS.packed(*LOAD.defaults, 2)
+SMALL_PUMP = b"".join([
+    TWO_SENSORS,
+    TICK.packed(*CLEARS),
+    TWO_SENSORS,
+    *(CYCLE.packed(pattern, 0, 0) for pattern in (1, 3, 2, 0, 4, 1)),
+])  # fmt: skip
+PUMPED = (
+    turned(STEPS - 1, number=4)
+    + stopped(0, STEPS + 1, TURN[(STEPS - 1) % 6][1])
+    + stopped(0, 0, 0)
+    + stopped(0, 0, -10923)
+    + stopped(0, 2, 0)
+    + stopped(0, 3, 10922)
+    + stopped(0, 5, -32768)
+    + stopped(1, 5, -32768)
+    + stopped(0, 6, -21846)
+)
+
 # "a line with number 6 shows the unchanged state and ends the run": no record is called X, and behind it stand a step, and a tick that
-# would clear the fault. The line is the last one with number 6, and none follows it.
-UNKNOWN = b"X" + CYCLE.packed(2, 0, 0) + TICK.packed(*CLEARS)
-ENDING = turned(STEPS - 1, number=6)
+# would trip. The line is the last one with number 6, and none follows it.
+UNKNOWN = b"X" + CYCLE.packed(3, 0, 0) + TICK.packed(*OVER_VOLTAGE)
+ENDING = stopped(6, 6, -21846)
 
 
 def files() -> Files:
-    return {"stdin": INPUT + TURNING + UNKNOWN, "stdout": (OUTPUT + TURNED + ENDING).encode("ascii")}
+    return {"stdin": INPUT + TURNING + SMALL_PUMP + UNKNOWN, "stdout": (OUTPUT + TURNED + PUMPED + ENDING).encode("ascii")}

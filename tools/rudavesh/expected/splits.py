@@ -29,10 +29,18 @@ repeat 3 cycle 4
 tick                          # CATCHSPIN
 tick gate_kill=1              # FAULT
 load                          # refused with 4
+tick gate_kill=0 clear=1      # STOP
+load sensors=2                # two Hall sensors
+cycle 0                       # kept; then forward, stray and back
+cycle 1
+cycle 2
+cycle 0
+cycle 4                       # refused with 1
+load sensors=1                # refused with 2
 raw 58 43 01 00
 """
 
-# So many bytes less, and the second run ends between two records, the third in a short load.
+# So many bytes less, and the second run ends between two records, the third in a short load of 25 numbers.
 UNKNOWN = 4
 CUT = 20
 

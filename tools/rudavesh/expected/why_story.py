@@ -3,7 +3,7 @@ give for it. The sentences are typed here; the records' numbers are counted whil
 
 from typing import List
 
-from ..record_form import CYCLE, LOAD, TICK, Kind
+from ..record_form import CYCLE, LOAD, LOAD_WITH_SENSORS, TICK, Kind
 from . import Files
 
 HELD = 10_000  # "from its 10,000th tick on"
@@ -25,7 +25,7 @@ class Story:
         return number
 
     def load(self, *said: str, **fields: int) -> int:
-        return self.call(LOAD, *said, **fields)
+        return self.call(LOAD_WITH_SENSORS if "sensors" in fields else LOAD, *said, **fields)
 
     def cycle(self, pattern: int, *said: str) -> int:
         return self.call(CYCLE, *said, pattern=pattern)
@@ -89,7 +89,30 @@ def told() -> Story:
     story.cycle(8, "cycle refused: number 1, place 1: pattern is 0..7")
     story.load("loaded: mode 1, 1 retry allowed", ControlMode=1, RetryLimit=1)
     story.load("loaded: mode 0, no timed retries")
+    small_pump(story)
     return story
+
+
+def small_pump(story: Story) -> None:
+    """The pump is changed for a small one, with two Hall sensors: M-101."""
+    story.load("load refused: number 2, place 24: RetryLimit is 0..100", sensors=4, RetryLimit=101)
+    story.load("load refused: number 2, place 25: sensors is 2..3", sensors=4)
+    story.load("loaded: mode 0, no timed retries", "loaded: motor with two Hall sensors", sensors=2)
+    story.cycle(4, "cycle refused: number 1, place 1: pattern is 0..3 with two Hall sensors")
+    # all four patterns are good: 0 twice is no dead sample
+    for pattern in (0, 0, 1, 3):
+        story.cycle(pattern)
+    # three strays: 0 is opposite 3; no cause stands, and the clear works at once
+    story.cycle(0)
+    story.cycle(0)
+    stray = story.cycle(0, "live: three stray Hall samples (bit 15)")
+    story.tick(f"trip by record {stray}: three stray Hall samples (bit 15)")
+    story.tick("FAULT left: clear", clear=1)
+    # as many sensors as a load of 24 numbers means: nothing more is said, and 4 is a pattern again
+    story.load("loaded: mode 1, 2 retries allowed", ControlMode=1, sensors=3)
+    story.cycle(4)
+    story.cycle(8, "cycle refused: number 1, place 1: pattern is 0..7")
+    story.load("load refused: number 2, place 25: sensors is 2..3", sensors=1)
 
 
 def start(story: Story, sentence: str) -> None:
