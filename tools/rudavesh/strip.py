@@ -66,7 +66,7 @@ def draw(runs: List[Span], title: str, width: int, longest: int, marks: Optional
     picture.rows("Gates", "gate", 18, rows_of(spans_of(runs, lambda report: report.gate), GATES))
     picture.rows("Live word", "live", 16, live)
     picture.curve("Speed reference", "reference", "#1d4ed8", [run.value.reference for run in runs])
-    picture.curve("Position (steps)", "position", "#0f766e", moved)
+    picture.curve("Position (counts)", "position", "#0f766e", moved)
     picture.rows("Refusals", "refusal", 16, refused)
     background = picture.background(states, longest)
     if marks is not None:

@@ -1,0 +1,53 @@
+"""The pictures in docs/ are those that tools/strip draws of the examples, from the lines of the independent model and from the reasons of
+`./why`: those of the shift as README.md shows them, those of the small pump as they are typed here from the paper's rules."""
+
+import re
+import tempfile
+import unittest
+from pathlib import Path
+
+from rudavesh import model
+from rudavesh.places import ROOT
+
+from .commands import run
+from .records_case import Case
+
+SMALL_PUMP = """\
+record 1      load refused: number 2, place 25: sensors is 2..3
+record 2      loaded: mode 0, no timed retries
+record 2      loaded: motor with two Hall sensors
+record 69     start: permitted by the low command at record 68
+record 73     gates: drive
+record 120    cycle refused: number 1, place 1: pattern is 0..3 with two Hall sensors
+record 132    live: three stray Hall samples (bit 15)
+record 133    trip by record 132: three stray Hall samples (bit 15)
+record 134    FAULT left: clear
+record 142    start: permitted by the low command at record 141
+record 146    gates: drive
+record 165    stop: low command
+"""
+
+
+@unittest.skipUnless(model.can_be_built(), model.NO_CARGO)
+class Pictures(Case):
+    def drawn(self, name: str, reasons: str, title: str) -> bytes:
+        model.build()
+        lines = model.lines(self.written((ROOT / "examples" / f"{name}.txt").read_bytes()))
+        with tempfile.TemporaryDirectory() as folder:
+            file = Path(folder) / "reasons"
+            file.write_text(reasons)
+            done = run("strip", lines, "--why", str(file), "--title", title)
+        self.assertEqual((done.returncode, done.stderr), (0, b""))
+        return done.stdout
+
+    def same(self, name: str, reasons: str, title: str) -> None:
+        stored = (ROOT / "docs" / f"{name}.svg").read_bytes()
+        self.assertTrue(self.drawn(name, reasons, title) == stored, f"docs/{name}.svg is not what tools/strip draws of examples/{name}.txt")
+
+    def test_of_the_shift(self):
+        shown = re.search(r"^    \./why examples/shift\.txt\n\nprints\n\n((?:    record .*\n)+)", (ROOT / "README.md").read_text(), re.M)
+        self.assertIsNotNone(shown, "README.md does not show what ./why prints of examples/shift.txt")
+        self.same("shift", shown[1].replace("    record", "record"), "The example shift")
+
+    def test_of_the_small_pump(self):
+        self.same("small-pump", SMALL_PUMP, "A small pump with two Hall sensors")
