@@ -9,7 +9,7 @@ use crate::benchline::{read_bench_head, BenchHead, BenchRecord};
 use crate::drive::{Answer, Drive};
 use crate::generator::stream;
 use crate::hall::{Layout, THREE_SENSORS, TWO_SENSORS};
-use crate::load::SENSORS_PLACE;
+use crate::load::{BAD_SENSORS, SENSORS_PLACE};
 use crate::random::Random;
 use crate::record::{record_length, Record};
 use crate::settings::SETTINGS;
@@ -74,7 +74,7 @@ fn put_besides(random: &mut Random, last_load: &[u16], drive: &Drive, written: &
         numbers[spoiled] = random.pick(&[0, 1, 255, 256, 4096, 32768, 65535]);
     }
     if length == SENSORS_PLACE && random.chance(700) {
-        numbers[SETTINGS] = random.pick(&[0, 1, 4, 65535]);
+        numbers[SETTINGS] = random.pick(&BAD_SENSORS);
     }
     let record = BenchRecord::Numbers(numbers);
     if record.call(drive).answer.number != 0 {

@@ -8,6 +8,10 @@ use crate::settings::{PerSetting, Settings, SETTINGS};
 /// numbers a load has that holds it: "A program record M carries 25."
 pub const SENSORS_PLACE: usize = SETTINGS + 1;
 
+/// What streams give for a setting 25 "outside 2..3": next to it, the most of
+/// two bytes, and numbers of which one byte alone would be good.
+pub const BAD_SENSORS: [u16; 8] = [0, 1, 4, 258, 259, 512, 768, 65535];
+
 #[derive(Clone, Copy, Debug, PartialEq, Eq)]
 pub struct Load {
     pub settings: Settings,

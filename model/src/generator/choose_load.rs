@@ -3,7 +3,7 @@
 use super::choose_settings::Numbers;
 use super::Generator;
 use crate::hall::{THREE_SENSORS, TWO_SENSORS};
-use crate::load::SENSORS_PLACE;
+use crate::load::{BAD_SENSORS, SENSORS_PLACE};
 use crate::record::Record;
 use crate::settings::{Setting, SETTINGS};
 use crate::state::State;
@@ -14,9 +14,6 @@ pub type Told = Option<u16>;
 pub const UNTOLD: Told = None;
 pub const TWO: Told = Some(TWO_SENSORS.sensors as u16);
 pub const THREE: Told = Some(THREE_SENSORS.sensors as u16);
-
-/// Around "2..3", and the most that two bytes hold.
-pub const BAD_SENSORS: [u16; 4] = [0, 1, 4, 65535];
 
 /// The record of these settings.
 pub fn load_of(settings: Numbers, told: Told) -> Record {

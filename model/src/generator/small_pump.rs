@@ -2,11 +2,12 @@
 //! sensors, its stray samples, its refusals, and loads of either kind.
 
 use super::choose_cycle::Wish;
-use super::choose_load::{load_of, BAD_SENSORS, THREE, TWO, UNTOLD};
+use super::choose_load::{load_of, THREE, TWO, UNTOLD};
 use super::choose_tick::Command;
 use super::mood::Mood;
 use super::Generator;
 use crate::hall::TWO_SENSORS;
+use crate::load::BAD_SENSORS;
 use crate::record::Record;
 use crate::settings::{Setting, RULES};
 use crate::state::State;

@@ -6,7 +6,7 @@ use crate::cycle::CycleFields;
 use crate::drive::Refusal;
 use crate::flag::Flag;
 use crate::hall::{Group, Layout, THREE_SENSORS, TWO_SENSORS};
-use crate::load::{Load, SENSORS_PLACE};
+use crate::load::{Load, BAD_SENSORS, SENSORS_PLACE};
 use crate::record::Record;
 use crate::settings::SETTINGS;
 use crate::state::State;
@@ -26,9 +26,6 @@ counted_names! {
         WideAgain => "three sensors after two: pattern above 3 accepted",
     }
 }
-
-/// Around "2..3", and the most that two bytes hold.
-const BAD_SENSORS: [u16; 4] = [0, 1, 4, 65535];
 
 /// Patterns that three sensors have and two have not; then those of neither.
 const REFUSED: [i64; 6] = [4, 5, 6, 7, 8, 255];

@@ -160,6 +160,13 @@ def each_setting() -> Iterator[Case]:
                 yield load("STOP", put(GOOD, place, value))
 
 
+def sensors() -> Iterator[Case]:
+    """Setting 25 outside 2..3, also where one of its two bytes alone would be good; by either record."""
+    for value in (0, 1, 4, 255, 258, 259, 512, 768, 65535):
+        yield load("STOP", [*GOOD, value])
+        yield load_by_m("STOP", [*GOOD, value])
+
+
 def several_settings(good: List[int]) -> Iterator[Case]:
     """Every setting from a place on refused, where it can be."""
     numbers = good
@@ -199,5 +206,5 @@ def fields() -> Iterator[Case]:
 
 def cases() -> List[Case]:
     """From power-up on. The fields come last: an accepted tick leaves STOP, where no load would be refused as it is here."""
-    settings = [*each_setting(), *several_settings(GOOD), *several_settings(OF_THREE), *sizes()]
+    settings = [*each_setting(), *sensors(), *several_settings(GOOD), *several_settings(OF_THREE), *sizes()]
     return [*states(), *motors(), *settings, *fields()]
