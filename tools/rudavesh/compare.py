@@ -1,4 +1,4 @@
-"""Runs the proved programs, shiftline and benchline, and the independent model (model/, written from document 01 and the page on
+"""Runs the proved programs, shiftline and benchline, and the independent model (model/, written from documents 01 and 02 and the page on
 bench formats alone) over the same generated records, and counts the lines in which they differ. Default: 40 seeds of 25,000 records, and
 three of 150,000 for what is slow.
 Exit status: 0 no line differs; 1 some do, or a write failed; 2 wrong use, cargo or the kit is missing, or one of the programs failed."""

@@ -1,6 +1,6 @@
 """Rewrites what the programs of the gate read and must print: stdin and stdout beside their sources.
 
-What a program must print is worked out from document 01 or by the independent model (rudavesh/expected), never by the program.
+What a program must print is worked out from documents 01 and 02 or by the independent model (rudavesh/expected), never by the program.
 Needs cargo, which builds the model.
 Exit status: 0 rewritten, or with --check all as they would be written; 1 with --check some are not,
 or a write failed; 2 wrong use, or no model."""

@@ -1,5 +1,6 @@
-"""What the programs of the gate read and must print, each by a module of its own: worked out from document 01, or by the independent
-model, and never by the program itself. Each has a function `files` that gives stdin and stdout as bytes; rudavesh.stored writes them."""
+"""What the programs of the gate read and must print, each by a module of its own: worked out from documents 01 and 02, or by the
+independent model, and never by the program itself. Each has a function `files` that gives stdin and stdout as bytes; rudavesh.stored
+writes them."""
 
 from typing import Dict, Iterable
 

@@ -47,8 +47,8 @@ load                          # three sensors again
 repeat 2 cycle 0              # flag 15: two dead samples
 """
 
-# The generated stream comes after the refusals, from STOP, and ends between two records with the gates on. Its seed is one of the generator's
-# theme of motors with two sensors: every tenth. Where it no longer serves, the first one that does is told.
+# The generated stream comes after the refusals, from STOP, and ends between two records with the gates on. Its seed is one of the
+# generator's theme of motors with two sensors: every tenth. Where it no longer serves, the first one that does is told.
 SEED, RECORDS = 1181, 600
 THEME = range(1, 100_000, 10)
 GATE = 3  # the column of the gate, from 0

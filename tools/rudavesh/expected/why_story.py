@@ -1,5 +1,5 @@
-"""What the program why reads and must print: the story of a pump, record by record, with the sentences that document 01's rules and demand 3
-give for it. The sentences are typed here; the records' numbers are counted while the story is told."""
+"""What the program why reads and must print: the story of a pump, record by record, with the sentences that the rules of documents 01 and
+02 and demand 3 give for it. The sentences are typed here; the records' numbers are counted while the story is told."""
 
 from typing import List
 
