@@ -4,6 +4,7 @@ use mathlib.Core.Bool.{Bool, false, cond}
 use lib.Dec.{eqb}
 use lib.IntN.{ℤ, pos}
 use Rattle.numbers.specs.Count.{up}
+use Rattle.hall.specs.Layout.{Layout, layout, sectorOf}
 use Rattle.hall.specs.Fate.{fate}
 use Rattle.hall.specs.Angle.{middleWith, boundaryWith}
 use Rattle.hall.specs.declared.Hall.{Hall}
@@ -12,17 +13,18 @@ use Rattle.hall.specs.declared.fate.Fate.{Fate}
 use Rattle.hall.specs.declared.fate.Fate.the-variants.{Dead, First, Same, Forward, Back, Stray}
 use Rattle.hall.specs.declared.fate.Kept.{Kept}
 use Rattle.hall.specs.declared.fate.Kept.the-variants.{Nothing, Pattern}
+use Rattle.hall.specs.declared.layout.Sensors.{Sensors}
 
 -- "Power-up is IDLE, all zero." "Before any pattern [the angle] is 0, without offset."
 abbrev pub poweredUp : Hall
 poweredUp = record { kept = Nothing; position = 0; angle = pos 0; «dead_streak» = 0; «stray_streak» = 0; «still_count» = 0 }
 
--- "position plus or minus 1"; "The position counter runs modulo 2^32."
-abbrev pub plusOne : ℕ → ℕ
-plusOne position = (position + 1) % 2 ^ 32
+-- "position plus or minus" a count; "The position counter runs modulo 2^32."
+abbrev pub plus : ℕ → ℕ → ℕ
+plus count position = (position + count) % 2 ^ 32
 
-abbrev pub minusOne : ℕ → ℕ
-minusOne position = (position + (2 ^ 32 - 1)) % 2 ^ 32
+abbrev pub minus : ℕ → ℕ → ℕ
+minus count position = (position + (2 ^ 32 - count % 2 ^ 32)) % 2 ^ 32
 
 -- a newly kept pattern: "both streaks zero"; "The still count is zero after a newly kept pattern"
 abbrev pub keeps : Fate → ℕ → ℕ → ℤ → Sampled
@@ -58,7 +60,7 @@ rests hall fate kept dead stray flagged =
       flagged = flagged;
     }
 
--- the number of the kept pattern
+-- the number of the kept pattern, asked for where one is kept
 abbrev pub number : Kept → ℕ
 number Nothing = 0
 number (Pattern p) = p
@@ -71,7 +73,7 @@ deadSample hall =
     rests hall Dead (cond at2 Nothing (hall .kept)) dead 0 at2
 
 -- "Another of 1..6: stray streak up, dead streak zero. At 3, flag 15 is set, the pattern is forgotten and the stray streak returns to
--- zero."
+-- zero."; 02: another of the layout's patterns
 unfoldable pub straySample : Hall → Sampled
 straySample hall =
     let stray : ℕ = up 3 (hall .«stray_streak») in
@@ -79,18 +81,22 @@ straySample hall =
     rests hall Stray (cond at3 Nothing (hall .kept)) 0 (cond at3 0 stray) at3
 
 -- the five groups, two of them steps
-abbrev pub after : Hall → ℕ → ℤ → Fate → Sampled
-after hall pattern offset Dead = deadSample hall
+abbrev pub after : Layout → Hall → ℕ → ℤ → Fate → Sampled
+after l hall pattern offset Dead = deadSample hall
 -- "Any of 1..6 with none kept: kept; position unchanged; both streaks zero."
-after hall pattern offset First = keeps First pattern (hall .position) (middleWith offset pattern)
+after l hall pattern offset First = keeps First pattern (hall .position) (middleWith l offset pattern)
 -- "Same as kept: both streaks zero."
-after hall pattern offset Same = rests hall Same (hall .kept) 0 0 false
--- "Next or previous: kept; position plus or minus 1; both streaks zero."
-after hall pattern offset Forward =
-    keeps Forward pattern (plusOne (hall .position)) (boundaryWith offset (number (hall .kept)))
-after hall pattern offset Back = keeps Back pattern (minusOne (hall .position)) (boundaryWith offset pattern)
-after hall pattern offset Stray = straySample hall
+after l hall pattern offset Same = rests hall Same (hall .kept) 0 0 false
+-- "Next or previous: kept; position plus or minus 1; both streaks zero.", amended by 02, M-101: "A clockwise step adds the width of the
+-- sector left, a counter-clockwise one subtracts the width of the sector entered"
+after l hall pattern offset Forward =
+    let left : ℕ = number (hall .kept) in
+    keeps Forward pattern (plus (sectorOf l left .width) (hall .position)) (boundaryWith l offset left)
+after l hall pattern offset Back =
+    keeps Back pattern (minus (sectorOf l pattern .width) (hall .position)) (boundaryWith l offset pattern)
+after l hall pattern offset Stray = straySample hall
 
 -- one sample: the next Hall part, the sample's fate, and whether flag 15 is set
-unfoldable pub sampled : Hall → ℕ → ℤ → Sampled
-sampled hall pattern offset = after hall pattern offset (fate pattern (hall .kept))
+unfoldable pub sampled : Sensors → Hall → ℕ → ℤ → Sampled
+sampled sensors hall pattern offset =
+    after (layout sensors) hall pattern offset (fate (layout sensors) pattern (hall .kept))

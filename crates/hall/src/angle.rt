@@ -6,7 +6,7 @@ use std::num::wrapping_sub_u16;
 ghost use mathlib.Core.Path.{_≡_};
 ghost use mir.Syntax.{w16};
 ghost use mir.Val.{ofZ};
-ghost use Rattle.hall.specs.Angle.{twelfth, sectorOf, withOffset, middleWith, boundaryWith};
+ghost use Rattle.hall.specs.Angle.{twelfth, withOffset};
 
 // k times 30 degrees, for k from 0 to 11, where a full turn is 65536.
 const TWELFTHS: [i16; 12] = [
@@ -30,23 +30,6 @@ fn twelfth(k: usize) -> i16
     TWELFTHS[k % 12]
 }
 
-// A pattern's sector, in twelfths of a turn: its middle, and the boundary from it to the next sector clockwise.
-struct Sector(usize, usize);
-
-fn sector_of(pattern: u8) -> Sector
-    ensures { λ r. ⌜ r ≡ sectorOf pattern ⌝ }
-{
-    match pattern {
-        1 => Sector(11, 0),
-        3 => Sector(1, 2),
-        2 => Sector(3, 4),
-        6 => Sector(5, 6),
-        4 => Sector(7, 8),
-        5 => Sector(9, 10),
-        _ => Sector(0, 0),
-    }
-}
-
 // The 16 bits of a signed number, in two's complement: `number as u16` is defined only where it loses nothing.
 fn bits(number: i16) -> u16
     ensures { λ r. ⌜ r ≡ ofZ w16 number ⌝ }
@@ -65,16 +48,9 @@ fn with_offset(angle: i16, offset: i16) -> i16
     signed(wrapping_add_u16(bits(angle), bits(offset)))
 }
 
-// What a first pattern gives.
-pub(crate) fn middle(pattern: u8, offset: i16) -> i16
-    ensures { λ r. ⌜ r ≡ middleWith offset pattern ⌝ }
+// One of the twelve angles, with the offset.
+pub(crate) fn angle_at(k: usize, offset: i16) -> i16
+    ensures { λ r. ⌜ r ≡ withOffset (twelfth k) offset ⌝ }
 {
-    with_offset(twelfth(sector_of(pattern).0), offset)
-}
-
-// What a step over the boundary between the pattern and the next one clockwise gives.
-pub(crate) fn boundary(pattern: u8, offset: i16) -> i16
-    ensures { λ r. ⌜ r ≡ boundaryWith offset pattern ⌝ }
-{
-    with_offset(twelfth(sector_of(pattern).1), offset)
+    with_offset(twelfth(k), offset)
 }

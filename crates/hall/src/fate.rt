@@ -1,5 +1,9 @@
 // The judgement of a sample.
+use crate::layout::Place;
+use crate::layout::Sensors;
+use crate::layout::place_of;
 ghost use mathlib.Core.Path.{_≡_};
+ghost use Rattle.hall.specs.Layout.{layout};
 ghost use Rattle.hall.specs.Fate.{fate, beside};
 
 // What became of a sample.
@@ -18,22 +22,17 @@ pub enum Kept {
     Pattern(u8),
 }
 
-pub fn judged(pattern: u8, kept: Kept) -> Fate
-    ensures { λ r. ⌜ r ≡ fate pattern kept ⌝ }
+pub fn judged(sensors: Sensors, pattern: u8, kept: Kept) -> Fate
+    ensures { λ r. ⌜ r ≡ fate (layout sensors) pattern kept ⌝ }
 {
-    match pattern {
-        1 => between(5, 1, 3, kept),
-        3 => between(1, 3, 2, kept),
-        2 => between(3, 2, 6, kept),
-        6 => between(2, 6, 4, kept),
-        4 => between(6, 4, 5, kept),
-        5 => between(4, 5, 1, kept),
-        _ => Fate::Dead,
+    match place_of(sensors, pattern) {
+        Place::Outside => Fate::Dead,
+        Place::Within(sector) => between(sector.behind, pattern, sector.ahead, kept),
     }
 }
 
-fn between(previous: u8, here: u8, next: u8, kept: Kept) -> Fate
-    ensures { λ r. ⌜ r ≡ beside previous here next kept ⌝ }
+fn between(behind: u8, here: u8, ahead: u8, kept: Kept) -> Fate
+    ensures { λ r. ⌜ r ≡ beside behind here ahead kept ⌝ }
 {
     match kept {
         Kept::Nothing => Fate::First,
@@ -41,10 +40,10 @@ fn between(previous: u8, here: u8, next: u8, kept: Kept) -> Fate
             if held == here {
                 return Fate::Same;
             }
-            if held == previous {
+            if held == behind {
                 return Fate::Forward;
             }
-            if held == next {
+            if held == ahead {
                 return Fate::Back;
             }
             Fate::Stray

@@ -1,16 +1,20 @@
 // What one Hall sample says: its fate, and the next Hall part of the drive state.
 mod angle;
 pub mod fate;
+pub mod layout;
 
-use angle::boundary;
-use angle::middle;
+use angle::angle_at;
 use fate::Fate;
 use fate::Kept;
 use fate::judged;
+use layout::Sensors;
+use layout::sector_of;
 use std::num::wrapping_add_u32;
 use std::num::wrapping_sub_u32;
 ghost use mathlib.Core.Path.{_≡_};
-ghost use Rattle.hall.specs.Sample.{keeps, rests, number, deadSample, straySample, sampled};
+ghost use Rattle.hall.specs.declared.fate.Fate.the-variants.{First, Forward, Back};
+ghost use Rattle.hall.specs.Layout.{layout};
+ghost use Rattle.hall.specs.Sample.{keeps, rests, number, deadSample, straySample, after, sampled};
 
 // The Hall part of the drive state.
 pub struct Hall {
@@ -68,38 +72,47 @@ fn number(kept: Kept) -> u8
 
 impl Hall {
     // One sample: any pattern, against any Hall part.
-    pub fn sampled(self, pattern: u8, offset: i16) -> Sampled
-        ensures { λ r. ⌜ r ≡ sampled self pattern offset ⌝ }
+    pub fn sampled(self, sensors: Sensors, pattern: u8, offset: i16) -> Sampled
+        ensures { λ r. ⌜ r ≡ sampled sensors self pattern offset ⌝ }
     {
         let kept = self.kept;
-        let fate = judged(pattern, kept);
-        match fate {
+        match judged(sensors, pattern, kept) {
             Fate::Dead => self.dead_sample(),
-            Fate::First => {
-                let angle = middle(pattern, offset);
-                keeps(Fate::First, pattern, self.position, angle)
-            }
+            Fate::First => self.first_sample(sensors, pattern, offset),
             Fate::Same => self.rests(Fate::Same, kept, 0, 0, false),
-            Fate::Forward => {
-                let angle = boundary(number(kept), offset);
-                keeps(
-                    Fate::Forward,
-                    pattern,
-                    wrapping_add_u32(self.position, 1),
-                    angle,
-                )
-            }
-            Fate::Back => {
-                let angle = boundary(pattern, offset);
-                keeps(
-                    Fate::Back,
-                    pattern,
-                    wrapping_sub_u32(self.position, 1),
-                    angle,
-                )
-            }
+            Fate::Forward => self.forward_sample(sensors, pattern, offset),
+            Fate::Back => self.back_sample(sensors, pattern, offset),
             Fate::Stray => self.stray_sample(),
         }
+    }
+
+    fn first_sample(self, sensors: Sensors, pattern: u8, offset: i16) -> Sampled
+        ensures { λ r. ⌜ r ≡ after (layout sensors) self pattern offset First ⌝ }
+    {
+        let entered = sector_of(sensors, pattern);
+        let angle = angle_at(entered.middle, offset);
+        keeps(Fate::First, pattern, self.position, angle)
+    }
+
+    // Going clockwise, the sector that is left counts.
+    fn forward_sample(self, sensors: Sensors, pattern: u8, offset: i16) -> Sampled
+        ensures { λ r. ⌜ r ≡ after (layout sensors) self pattern offset Forward ⌝ }
+    {
+        let kept = self.kept;
+        let left = sector_of(sensors, number(kept));
+        let position = wrapping_add_u32(self.position, left.width);
+        let angle = angle_at(left.boundary, offset);
+        keeps(Fate::Forward, pattern, position, angle)
+    }
+
+    // Going back, it is the sector that is entered: the same boundary, and as many counts.
+    fn back_sample(self, sensors: Sensors, pattern: u8, offset: i16) -> Sampled
+        ensures { λ r. ⌜ r ≡ after (layout sensors) self pattern offset Back ⌝ }
+    {
+        let entered = sector_of(sensors, pattern);
+        let position = wrapping_sub_u32(self.position, entered.width);
+        let angle = angle_at(entered.boundary, offset);
+        keeps(Fate::Back, pattern, position, angle)
     }
 
     fn dead_sample(self) -> Sampled

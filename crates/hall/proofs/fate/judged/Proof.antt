@@ -1,31 +1,25 @@
--- Each arm of `judged` names the two patterns beside its own, as the clockwise order has them; a pattern that no arm names is dead.
+-- `judged` asks where the pattern stands, and within the layout what the kept one is to it.
+use mathlib.Core.Path.{sym, _∙_}
 use borrow.Author.Needs.{needs}
-use borrow.Author.Tests.{ne-eqb}
-use Rattle.hall.specs.Fate.{fate}
+use Rattle.hall.specs.Layout.{layout}
+use Rattle.hall.specs.declared.layout.Place.the-variants.{Outside, Within}
+use Rattle.hall.proofs.Layouts.{fate-in}
 use Rattle.hall.proofs.fate.judged.Statement.{statement}
 use Rattle.hall.proofs.fate.judged.Tie as tie
 
-returns-7 : tie.Need-returns-7
-unfolding fate
-returns-7 c =
-    let no = c .match .rest in
-    rw (
-      ne-eqb _ _ (no .0 .0 .0 .0 .0 .1),
-      ne-eqb _ _ (no .0 .0 .0 .0 .1),
-      ne-eqb _ _ (no .0 .0 .0 .1),
-      ne-eqb _ _ (no .0 .0 .1),
-      ne-eqb _ _ (no .0 .1),
-      ne-eqb _ _ (no .1),
-    )
+returns : tie.Need-returns
+returns c =
+    let start = c .before .before .before in
+    fate-in (layout (start .args .sensors)) (start .args .pattern) (start .args .kept) Outside
+    (sym (c .enum-told .given .1) ∙ c .before .before .place-of .ensures)
+
+returns-2 : tie.Need-returns-2
+returns-2 c =
+    let told = c .before .before in
+    let start = told .before .before .before in
+    c .between .ensures
+    ∙ fate-in (layout (start .args .sensors)) (start .args .pattern) (start .args .kept) (Within _)
+    (sym (told .sector .given .1) ∙ told .before .before .place-of .ensures)
 
 pub judged-spec : {M : Type 1} → statement M
-unfolding fate
-judged-spec =
-    tie.close (tie.spec (search needs) (search needs) (search needs) (search needs) (search needs) (search needs)
-    (λ c. rw (c .before .match .keys1) (c .between .ensures))
-    (λ c. rw (c .before .match .keys2) (c .between2 .ensures))
-    (λ c. rw (c .before .match .keys3) (c .between3 .ensures))
-    (λ c. rw (c .before .match .keys4) (c .between4 .ensures))
-    (λ c. rw (c .before .match .keys5) (c .between5 .ensures))
-    (λ c. rw (c .before .match .keys6) (c .between6 .ensures))
-    returns-7)
+judged-spec = tie.close (tie.spec (search needs) (search needs) (search needs) (search needs) returns returns-2)
