@@ -1,5 +1,6 @@
 -- What the proofs of the crates above cite.
 pub mod Settles
+pub mod Loads
 pub mod Gates
 pub mod Spin
 -- Of the promises themselves.

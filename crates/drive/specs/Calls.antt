@@ -3,7 +3,7 @@ use Prim.Native.Nat.{ℕ}
 use mathlib.Core.Bool.{Bool, false, _&&_, cond}
 use mathlib.Core.List.{List}
 use lib.Dec.{eqb, ltb}
-use lib.ListN.{replicate}
+use lib.ListN.{take, replicate}
 use mir.Syntax.{w16}
 use mir.Val.{toZ}
 use Rattle.numbers.specs.Count.{up}
@@ -11,10 +11,12 @@ use Rattle.faults.specs.Word.{flag, _or_}
 use Rattle.hall.specs.Sample.{sampled, poweredUp}
 use Rattle.hall.specs.declared.Hall.{Hall}
 use Rattle.hall.specs.declared.Sampled.{Sampled}
+use Rattle.hall.specs.declared.layout.Sensors.{Sensors}
+use Rattle.hall.specs.declared.layout.Sensors.the-variants.{Three, Two}
 use Rattle.states.specs.States.{is}
 use Rattle.states.specs.declared.State.{State}
 use Rattle.states.specs.declared.State.the-variants.{Idle, Stop}
-use Rattle.settings.specs.Settings.{settingCount, HallAngleOffset, OffsetPsc, samples}
+use Rattle.settings.specs.Settings.{settingCount, meant, HallAngleOffset, HallSensors, OffsetPsc, samples}
 use Rattle.fields.specs.declared.Cycle.{Cycle}
 use Rattle.motor.specs.Counts.{atRest}
 use Rattle.motor.specs.declared.Run.{Run}
@@ -27,12 +29,17 @@ use Rattle.drive.specs.declared.Drive.{Drive}
 use Rattle.drive.specs.declared.offsets.Offsets.{Offsets}
 use Rattle.drive.specs.declared.answer.Reply.{Reply}
 
--- everything "to power-up values: flags, position, pattern, offsets and arming", but state and settings
-abbrev pub fresh : State → List ℕ → Drive
-fresh state settings =
+-- 02, M-101: "Setting 25 chooses 2 or 3 sensors"
+abbrev pub chosen : List ℕ → Sensors
+chosen settings = cond (eqb (HallSensors settings) 2) Two Three
+
+-- everything "to power-up values: flags, position, pattern, offsets and arming", but state, settings and sensors
+abbrev pub fresh : State → List ℕ → Sensors → Drive
+fresh state settings sensors =
     record {
       state = state;
       settings = settings;
+      sensors = sensors;
       hall = poweredUp;
       flags = 0;
       cycles = 0;
@@ -43,11 +50,11 @@ fresh state settings =
       retries = 0;
     }
 
--- "Power-up is IDLE, all zero."
+-- "Power-up is IDLE, all zero." No paper says which sensors; no cycle is accepted there.
 abbrev pub powerUp : Drive
-powerUp = fresh Idle (replicate settingCount 0)
+powerUp = fresh Idle (replicate settingCount 0) Three
 
--- what a cycle or a tick leaves: "no cycle or tick changes" the settings; the rest is given, in the order of the state
+-- what a cycle or a tick leaves: "no cycle or tick changes" the settings, nor the sensors; the rest is given, in the order of the state
 abbrev pub becomes :
     Drive
     → (state : State) (hall : Hall) (flags cycles ticks : ℕ) (offsets : Offsets) (run : Run) (armed : Bool) (retries : ℕ)
@@ -56,6 +63,7 @@ becomes d state hall flags cycles ticks offsets run armed retries =
     record {
       state = state;
       settings = d .settings;
+      sensors = d .sensors;
       hall = hall;
       flags = flags;
       cycles = cycles;
@@ -71,13 +79,17 @@ becomes d state hall flags cycles ticks offsets run armed retries =
 abbrev pub settle : Verdict → (next left : Drive) → Reply
 settle v next left = cond (eqb (v .number) 0) (reply 0 0 next) (reply (v .number) (v .place) left)
 
--- "An accepted load gives STOP and clears everything else to power-up values"; "keeps its 24 settings as loaded"
-unfoldable pub load : Drive → List ℕ → Reply
-load d numbers = settle (verdict (loadRows d numbers)) (fresh Stop numbers) d
+-- "An accepted load gives STOP and clears everything else to power-up values"; "keeps its 24 settings as loaded", and beside them the
+-- sensors that setting 25 chooses
+abbrev pub loaded : List ℕ → Drive
+loaded numbers = fresh Stop (take settingCount numbers) (chosen numbers)
 
--- the sample of a cycle, judged with HallAngleOffset, "any (signed)"
+unfoldable pub load : Drive → List ℕ → Reply
+load d numbers = settle (verdict (loadRows d numbers)) (loaded (meant numbers)) d
+
+-- the sample of a cycle, judged with the chosen layout and with HallAngleOffset, "any (signed)"
 abbrev pub sample : Drive → Cycle → Sampled
-sample d c = sampled (d .hall) (c .pattern) (toZ w16 (HallAngleOffset (d .settings)))
+sample d c = sampled (d .sensors) (d .hall) (c .pattern) (toZ w16 (HallAngleOffset (d .settings)))
 
 -- "In OFFSETCAL the first N = 2^(13 - OffsetPsc) add their samples to two sums."
 abbrev pub summed : Drive → Cycle → Offsets

@@ -10,26 +10,43 @@ use crate::refusals::awake;
 use crate::refusals::loadable;
 use faults::flag;
 use fields::Cycle;
+use hall::layout::Sensors;
 use numbers::count_up;
 use numbers::signed;
+use settings::ALL_SETTINGS;
 use settings::HALL_ANGLE_OFFSET;
+use settings::HALL_SENSORS;
 use settings::OFFSET_PSC;
 use settings::SETTING_COUNT;
+use settings::USUAL_SENSORS;
 use settings::samples;
 use states::State;
 use verdicts::Verdict;
 ghost use mathlib.Core.Path.{_≡_};
-ghost use lib.ListN.{length};
-ghost use Rattle.settings.specs.Settings.{settingCount};
-ghost use Rattle.drive.specs.Calls.{powerUp, load, summed, cycled, cycle};
+ghost use mathlib.Core.Bool.{true, _||_};
+ghost use lib.Dec.{eqb};
+ghost use lib.ListN.{length, take};
+ghost use Rattle.settings.specs.Settings.{settingCount, allSettings, meant};
+ghost use Rattle.drive.specs.Refusals.{highestPattern};
+ghost use Rattle.drive.specs.Calls.{powerUp, chosen, load, summed, cycled, cycle};
 
-// The highest pattern of three Hall sensors.
-const HIGHEST_PATTERN: u8 = 7;
+// The 25 settings that 24 or 25 numbers mean.
+fn completed(numbers: &[u16]) -> [u16; ALL_SETTINGS]
+    requires { ⌜ (eqb (length (now numbers)) settingCount || eqb (length (now numbers)) allSettings) ≡ true ⌝ }
+    ensures { λ r. ⌜ r ≡ meant (now (numbers .entry)) ⌝ }
+{
+    let mut settings = [USUAL_SENSORS; ALL_SETTINGS];
+    let mut i: usize = 0;
+    while i < numbers.len() {
+        settings[i] = numbers[i];
+        i += 1;
+    }
+    settings
+}
 
-// The numbers of a load as the array that the state keeps.
-fn copied(numbers: &[u16]) -> [u16; SETTING_COUNT]
-    requires { ⌜ length (now numbers) ≡ settingCount ⌝ }
-    ensures { λ r. ⌜ r ≡ now (numbers .entry) ⌝ }
+// The first 24 of them: the array that the state keeps.
+fn kept(numbers: [u16; ALL_SETTINGS]) -> [u16; SETTING_COUNT]
+    ensures { λ r. ⌜ r ≡ take settingCount numbers ⌝ }
 {
     let mut settings = [0u16; SETTING_COUNT];
     let mut i: usize = 0;
@@ -40,19 +57,39 @@ fn copied(numbers: &[u16]) -> [u16; SETTING_COUNT]
     settings
 }
 
+fn chosen(settings: [u16; ALL_SETTINGS]) -> Sensors
+    ensures { λ r. ⌜ r ≡ chosen settings ⌝ }
+{
+    if settings[HALL_SENSORS] == 2 {
+        Sensors::Two
+    } else {
+        Sensors::Three
+    }
+}
+
+fn highest_pattern(sensors: Sensors) -> u8
+    ensures { λ r. ⌜ r ≡ highestPattern sensors ⌝ }
+{
+    match sensors {
+        Sensors::Three => 7,
+        Sensors::Two => 3,
+    }
+}
+
 impl Drive {
     pub fn power_up() -> Self
         ensures { λ r. ⌜ r ≡ powerUp ⌝ }
     {
-        fresh(State::Idle, [0u16; SETTING_COUNT])
+        fresh(State::Idle, [0u16; SETTING_COUNT], Sensors::Three)
     }
 
     // A load of any numbers, lent by the caller.
     pub fn load(self, numbers: &[u16]) -> Reply
         ensures { λ r. ⌜ r ≡ load self (now (numbers .entry)) ⌝ }
     {
-        if numbers.len() == SETTING_COUNT {
-            return self.load_settings(copied(numbers));
+        let count = numbers.len();
+        if (count == SETTING_COUNT) | (count == ALL_SETTINGS) {
+            return self.load_settings(completed(numbers));
         }
         let state = self.state;
         let wrong_length = Verdict {
@@ -62,13 +99,14 @@ impl Drive {
         settle(loadable(state, wrong_length), self, self)
     }
 
-    // A load of as many numbers as there are settings, for a caller that has them in an array.
-    pub fn load_settings(self, settings: [u16; SETTING_COUNT]) -> Reply
+    // A load of all 25 settings, for a caller that has them in an array.
+    pub fn load_settings(self, settings: [u16; ALL_SETTINGS]) -> Reply
         ensures { λ r. ⌜ r ≡ load self settings ⌝ }
     {
         let state = self.state;
         let verdict = loadable(state, settings::verdict(settings));
-        settle(verdict, fresh(State::Stop, settings), self)
+        let sensors = chosen(settings);
+        settle(verdict, fresh(State::Stop, kept(settings), sensors), self)
     }
 
     fn summed(self, cycle: Cycle) -> Offsets
@@ -89,7 +127,8 @@ impl Drive {
     {
         let settings = self.settings;
         let offset = signed(settings[HALL_ANGLE_OFFSET]);
-        let sampled = self.hall.sampled(cycle.pattern, offset);
+        let sensors = self.sensors;
+        let sampled = self.hall.sampled(sensors, cycle.pattern, offset);
         let hall = sampled.hall;
         Drive {
             hall,
@@ -104,7 +143,8 @@ impl Drive {
         ensures { λ r. ⌜ r ≡ cycle self fields ⌝ }
     {
         let state = self.state;
-        let verdict = awake(state, fields.verdict(HIGHEST_PATTERN));
+        let sensors = self.sensors;
+        let verdict = awake(state, fields.verdict(highest_pattern(sensors)));
         settle(verdict, self.cycled(fields), self)
     }
 }

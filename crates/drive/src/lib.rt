@@ -9,6 +9,7 @@ mod ticks;
 
 use hall::Hall;
 use hall::POWERED_UP;
+use hall::layout::Sensors;
 use motor::AT_REST;
 use motor::Run;
 use offsets::Offsets;
@@ -18,10 +19,12 @@ use states::State;
 ghost use mathlib.Core.Path.{_≡_};
 ghost use Rattle.drive.specs.Calls.{fresh};
 
-// The state of the drive. Its 24 settings stand as loaded; no cycle and no tick changes them.
+// The state of the drive. Its 24 settings stand as loaded, and beside them the sensors that setting 25 chose; no cycle and no tick
+// changes them.
 pub struct Drive {
     pub state: State,
     pub settings: [u16; SETTING_COUNT],
+    pub sensors: Sensors,
     pub hall: Hall,
     pub flags: u16,
     pub cycles: u32,
@@ -36,6 +39,7 @@ pub struct Drive {
 pub(crate) const POWER_UP: Drive = Drive {
     state: State::Idle,
     settings: [0u16; SETTING_COUNT],
+    sensors: Sensors::Three,
     hall: POWERED_UP,
     flags: 0,
     cycles: 0,
@@ -46,13 +50,14 @@ pub(crate) const POWER_UP: Drive = Drive {
     retries: 0,
 };
 
-// Everything as at power-up, but state and settings.
-pub(crate) fn fresh(state: State, settings: [u16; SETTING_COUNT]) -> Drive
-    ensures { λ r. ⌜ r ≡ fresh state settings ⌝ }
+// Everything as at power-up, but state, settings and sensors.
+pub(crate) fn fresh(state: State, settings: [u16; SETTING_COUNT], sensors: Sensors) -> Drive
+    ensures { λ r. ⌜ r ≡ fresh state settings sensors ⌝ }
 {
     Drive {
         state,
         settings,
+        sensors,
         ..POWER_UP
     }
 }

@@ -3,9 +3,9 @@ use Prim.Native.Nat.{ℕ, _+_, _≤_, _<_}
 use native.Mathlib.Nat.{zero-add}
 use native.Mathlib.Numerals.{add-one}
 use native.Mathlib.Omega.{arith}
-use mathlib.Core.Path.{_≡_}
+use mathlib.Core.Path.{_≡_, sym, ap, _∙_}
 use mathlib.Core.List.{List, _++_, append-nil}
-use lib.ListN.{length, getD, take, drop, set, drop-of-length-le}
+use lib.ListN.{length, getD, take, drop, set, drop-of-length-le, length-take, take-append-drop, List·getD-append}
 use lib.Seq.{paste-suc, take-all}
 
 -- the first i elements are those of the new list
@@ -24,3 +24,9 @@ filled-more old new i room some is =
 
 pub filled-all : (old new : List ℕ) (i : ℕ) → length old ≤ i → length new ≤ i → filled old new i ≡ new
 filled-all old new i whole all = rw (take-all i new all, drop-of-length-le old whole, append-nil)
+
+-- the first n elements are those of the list
+pub first-at : (n : ℕ) (list : List ℕ) (i : ℕ) → i < n → i < length list → getD (take n list) i 0 ≡ getD list i 0
+first-at n list i below inside =
+    sym (List·getD-append (take n list) (drop n list) 0 i (omega (arith, length-take n list)))
+    ∙ ap (λ (l : List ℕ). getD l i 0) (take-append-drop n list)

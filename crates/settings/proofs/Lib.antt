@@ -1,4 +1,5 @@
 -- What the proofs of the crates above cite.
 pub mod Places
+pub mod Meant
 -- Of the promises themselves.
 pub mod OneReply

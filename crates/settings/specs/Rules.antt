@@ -1,4 +1,5 @@
--- Document 01, "Settings, in order": the rule of each, and row 2, "a setting breaks its rule".
+-- Document 01, "Settings, in order": the rule of each, and row 2, "a setting breaks its rule". Document 02, M-101: "setting 25 outside 2..3
+-- is 2 at place 25".
 use Prim.Native.Nat.{ℕ, _+_}
 use mathlib.Core.Bool.{Bool, true, _&&_, not, cond}
 use mathlib.Core.List.{List, [], _∷_, map}
@@ -17,7 +18,9 @@ ranges =
     -- 13 MotorLim, 14 OffsetPsc, 15 BtsChargeTime, 16 TCatchSpin, 17 DirectStartThr, 18 IS_Pulses
     (1, 4095) ∷ (0, 7) ∷ (0, 65535) ∷ (0, 65535) ∷ (0, 16383) ∷ (0, 255) ∷
     -- 19 ParkTime, 20 OpenLoopRamp, 21 CmdStart, 22 CmdStop, 23 CmdGain, 24 RetryLimit
-    (0, 65535) ∷ (0, 65535) ∷ (0, 4095) ∷ (0, 4095) ∷ (0, 65535) ∷ (0, 100) ∷ []
+    (0, 65535) ∷ (0, 65535) ∷ (0, 4095) ∷ (0, 4095) ∷ (0, 65535) ∷ (0, 100) ∷
+    -- 25 the number of Hall sensors
+    (2, 3) ∷ []
 
 abbrev pub lowest : List ℕ
 lowest = map (λ (r : ℕ × ℕ). r .0) ranges
@@ -51,7 +54,7 @@ rule s i = leb (getD lowest i 0) (getD s i 0) && leb (getD s i 0) (getD highest 
 abbrev pub indices : List ℕ
 indices =
     0 ∷ 1 ∷ 2 ∷ 3 ∷ 4 ∷ 5 ∷ 6 ∷ 7 ∷ 8 ∷ 9 ∷ 10 ∷ 11 ∷
-    12 ∷ 13 ∷ 14 ∷ 15 ∷ 16 ∷ 17 ∷ 18 ∷ 19 ∷ 20 ∷ 21 ∷ 22 ∷ 23 ∷ []
+    12 ∷ 13 ∷ 14 ∷ 15 ∷ 16 ∷ 17 ∷ 18 ∷ 19 ∷ 20 ∷ 21 ∷ 22 ∷ 23 ∷ 24 ∷ []
 
 -- row 2, "a setting breaks its rule", with the place "first bad setting, from 1"
 abbrev pub settingRow : List ℕ → ℕ → Row

@@ -1,13 +1,21 @@
--- Document 01, "Settings, in order".
+-- Document 01, "Settings, in order", and document 02, M-101, which brings setting 25.
 use Prim.Native.Nat.{ℕ, _-_, _^_}
-use mathlib.Core.Bool.{Bool}
-use mathlib.Core.List.{List}
+use mathlib.Core.Bool.{Bool, cond}
+use mathlib.Core.List.{List, [], _∷_, _++_}
 use lib.Dec.{eqb}
-use lib.ListN.{getD}
+use lib.ListN.{length, getD}
 
--- "its 24 settings"
+-- "its 24 settings", which the drive state keeps as loaded
 abbrev pub settingCount : ℕ
 settingCount = 24
+
+-- 02: "Setting 25 chooses 2 or 3 sensors"
+abbrev pub allSettings : ℕ
+allSettings = 25
+
+-- 02: "a load of 24 numbers means 3": the settings that the numbers of a load mean
+unfoldable pub meant : List ℕ → List ℕ
+meant numbers = cond (eqb (length numbers) settingCount) (numbers ++ (3 ∷ [])) numbers
 
 -- the settings are counted from 1
 abbrev pub setting : ℕ → List ℕ → ℕ
@@ -84,6 +92,10 @@ CmdGain = setting 23
 
 abbrev pub RetryLimit : List ℕ → ℕ
 RetryLimit = setting 24
+
+-- 02 gives setting 25 no name
+abbrev pub HallSensors : List ℕ → ℕ
+HallSensors = setting 25
 
 -- ControlMode 1: "Mode 1"
 abbrev pub mode1 : List ℕ → Bool

@@ -1,13 +1,17 @@
-// The 24 settings: which of them breaks its rule first.
+// The settings: which of them breaks its rule first.
 use verdicts::ACCEPTED;
 use verdicts::Verdict;
 ghost use mathlib.Core.Path.{_≡_};
 ghost use Prim.Native.Nat.{_<_};
 ghost use Rattle.verdicts.specs.Table.{verdict};
-ghost use Rattle.settings.specs.Settings.{settingCount, samples};
+ghost use Rattle.settings.specs.Settings.{allSettings, samples};
 ghost use Rattle.settings.specs.Rules.{levelsApart, criticalAbove, stopBelow, related, rule, settingRows};
 
+// The settings that the drive state keeps in its array.
 pub const SETTING_COUNT: usize = 24;
+
+// With setting 25, the number of Hall sensors.
+pub const ALL_SETTINGS: usize = 25;
 
 // Where each setting stands in the array, in the order of the paper, from 0.
 pub const CONTROL_MODE: usize = 0;
@@ -58,8 +62,13 @@ pub const CMD_GAIN: usize = 22;
 
 pub const RETRY_LIMIT: usize = 23;
 
+pub const HALL_SENSORS: usize = 24;
+
+// The number of sensors where a load does not say it.
+pub const USUAL_SENSORS: u16 = 3;
+
 // The lowest and the highest value of each setting.
-const LOWEST: [u16; SETTING_COUNT] = [
+const LOWEST: [u16; ALL_SETTINGS] = [
     0, // ControlMode
     0, // FaultEnable
     0, // VdcOvLevel
@@ -84,9 +93,10 @@ const LOWEST: [u16; SETTING_COUNT] = [
     0, // CmdStop
     0, // CmdGain
     0, // RetryLimit
+    2, // the number of Hall sensors
 ];
 
-const HIGHEST: [u16; SETTING_COUNT] = [
+const HIGHEST: [u16; ALL_SETTINGS] = [
     1, // ControlMode
     65535, // FaultEnable
     4095, // VdcOvLevel
@@ -111,6 +121,7 @@ const HIGHEST: [u16; SETTING_COUNT] = [
     4095, // CmdStop
     65535, // CmdGain
     100, // RetryLimit
+    3, // the number of Hall sensors
 ];
 
 // What a setting is to another one. Each relation is a function of the two numbers, so that a changed one touches no other.
@@ -133,7 +144,7 @@ fn stop_below(stop: u16, start: u16) -> bool
 }
 
 // Whether the setting at this place, from 1, stands to others as its rule says.
-fn related(settings: [u16; SETTING_COUNT], place: usize) -> bool
+fn related(settings: [u16; ALL_SETTINGS], place: usize) -> bool
     ensures { λ r. ⌜ r ≡ related settings place ⌝ }
 {
     match place {
@@ -144,19 +155,19 @@ fn related(settings: [u16; SETTING_COUNT], place: usize) -> bool
     }
 }
 
-fn rule(settings: [u16; SETTING_COUNT], i: usize) -> bool
-    requires { ⌜ i < settingCount ⌝ }
+fn rule(settings: [u16; ALL_SETTINGS], i: usize) -> bool
+    requires { ⌜ i < allSettings ⌝ }
     ensures { λ r. ⌜ r ≡ rule settings i ⌝ }
 {
     let value = settings[i];
     (LOWEST[i] <= value) & (value <= HIGHEST[i]) & related(settings, i + 1)
 }
 
-pub fn verdict(settings: [u16; SETTING_COUNT]) -> Verdict
+pub fn verdict(settings: [u16; ALL_SETTINGS]) -> Verdict
     ensures { λ r. ⌜ r ≡ verdict (settingRows settings) ⌝ }
 {
     let mut i: usize = 0;
-    while i < SETTING_COUNT {
+    while i < ALL_SETTINGS {
         if !rule(settings, i) {
             return Verdict {
                 number: 2,

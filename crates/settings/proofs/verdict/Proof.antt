@@ -9,7 +9,7 @@ use lib.ListN.{drop}
 use lib.Seq.{drop-cons}
 use borrow.Author.Needs.{needs}
 use Rattle.verdicts.specs.Table.{verdict}
-use Rattle.settings.specs.Settings.{settingCount}
+use Rattle.settings.specs.Settings.{allSettings}
 use Rattle.settings.specs.Rules.{indices, rule, settingRow, settingRows}
 use Rattle.verdicts.specs.declared.Verdict.{Verdict}
 use Rattle.settings.proofs.Places.{place-at}
@@ -22,17 +22,17 @@ from s i = verdict (map (settingRow s) (drop i indices))
 
 next :
     (s : List ℕ) (i : ℕ)
-    → i < settingCount
+    → i < allSettings
     → from s i ≡ cond (not (rule s i)) (record { number = 2; place = i + 1 }) (from s (suc i))
 next s i small =
     ap (λ (l : List ℕ). verdict (map (settingRow s) l))
     (drop-cons indices i 0 small ∙ ap (λ (x : ℕ). x ∷ drop (suc i) indices) (place-at i small))
 
 abbrev Inv-loop : tie.InvT-loop
-Inv-loop settings i₀ i = (i ≤ settingCount) × (verdict (settingRows settings) ≡ from settings i)
+Inv-loop settings i₀ i = (i ≤ allSettings) × (verdict (settingRows settings) ≡ from settings i)
 
 abbrev μ-loop : tie.MeasureT-loop
-μ-loop settings i₀ i = settingCount - i
+μ-loop settings i₀ i = allSettings - i
 
 loop-holds : tie.Need-loop-holds Inv-loop μ-loop
 unfolding settingRows
@@ -53,7 +53,7 @@ loop-again c =
 
 returns-2 : tie.Need-returns-2 Inv-loop μ-loop
 returns-2 c =
-    let end : c .before .loop .i ≡ settingCount = omega (arith, c .before .loop .inv .0, c .loop-test .left) in
+    let end : c .before .loop .i ≡ allSettings = omega (arith, c .before .loop .inv .0, c .loop-test .left) in
     rw (c .before .loop .inv .1, end)
 
 pub verdict-spec : {M : Type 1} → statement M

@@ -12,8 +12,9 @@ returns c =
       c .before .cycled .ensures,
       c .before .before .awake .ensures,
       c .before .before .before .verdict .ensures,
+      c .before .before .before .before .highest-pattern .ensures,
     )
 
 pub cycle-spec : {M : Type 1} → statement M
 cycle-spec =
-    tie.close (tie.spec (search needs) (search needs) (search needs) (search needs) returns)
+    tie.close (tie.spec (search needs) (search needs) (search needs) (search needs) (search needs) returns)

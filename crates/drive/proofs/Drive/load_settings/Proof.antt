@@ -1,23 +1,33 @@
 -- `load_settings` settles by the rows of the load, of which that of the length never holds.
+use mathlib.Core.Path.{_≡_}
 use lib.ListN.{length}
-use borrow.Author.Tests.{eq-eqb}
 use borrow.Author.Needs.{needs}
-use Rattle.settings.specs.Settings.{settingCount}
+use Rattle.settings.specs.Settings.{allSettings}
+use Rattle.settings.proofs.Meant.{meant-of-25}
 use Rattle.drive.specs.Calls.{load}
 use Rattle.drive.proofs.Drive.load_settings.Statement.{statement}
 use Rattle.drive.proofs.Drive.load_settings.Tie as tie
 
+counted : (start : tie.Start) → length (start .args .settings) ≡ allSettings
+counted start = search needs
+
 returns : tie.Need-returns
 unfolding load
 returns c =
-    let settings = c .before .before .before .before .args .settings in
+    let chosen = c .before .before .before in
+    let start = chosen .before .before .before in
     rw (
       c .settle .ensures,
       c .before .fresh .ensures,
-      c .before .before .loadable .ensures,
-      c .before .before .before .verdict .ensures,
-      eq-eqb (length settings) settingCount (search needs),
+      c .before .before .kept .ensures,
+      chosen .chosen .ensures,
+      chosen .before .loadable .ensures,
+      chosen .before .before .verdict .ensures,
+      meant-of-25 (start .args .settings) (counted start),
+      counted start,
     )
 
 pub load-settings-spec : {M : Type 1} → statement M
-load-settings-spec = tie.close (tie.spec (search needs) (search needs) (search needs) (search needs) returns)
+load-settings-spec =
+    tie.close (tie.spec (search needs) (search needs) (search needs) (search needs) (search needs) (search needs)
+    returns)

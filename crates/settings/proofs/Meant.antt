@@ -1,0 +1,40 @@
+-- What the numbers of a load mean, by their count.
+use mathlib.Core.Path.{_≡_, refl}
+use mathlib.Core.Bool.{Bool, true, false, _||_}
+use mathlib.Core.List.{List, [], _∷_, _++_}
+use Prim.Native.Nat.{ℕ}
+use native.Mathlib.Omega.{arith}
+use lib.Dec.{eqb}
+use lib.ListN.{length, length-append}
+use borrow.Author.Tests.{eq-eqb, ne-eqb, eqb-true}
+use Rattle.settings.specs.Settings.{settingCount, allSettings, meant}
+
+pub meant-of-24 : (numbers : List ℕ) → length numbers ≡ settingCount → meant numbers ≡ numbers ++ (3 ∷ [])
+unfolding meant
+meant-of-24 numbers is = rw (eq-eqb (length numbers) settingCount is)
+
+pub meant-of-others : (numbers : List ℕ) → (length numbers ≡ settingCount → ⊥) → meant numbers ≡ numbers
+unfolding meant
+meant-of-others numbers not = rw (ne-eqb (length numbers) settingCount not)
+
+pub meant-of-25 : (numbers : List ℕ) → length numbers ≡ allSettings → meant numbers ≡ numbers
+meant-of-25 numbers is = meant-of-others numbers (λ other. absurd (omega (arith, is, other)))
+
+-- either count means 25 settings
+pub length-meant : (numbers : List ℕ) → (eqb (length numbers) settingCount || eqb (length numbers) allSettings) ≡ true
+    → length (meant numbers) ≡ allSettings
+length-meant numbers either = go (eqb (length numbers) settingCount) refl either
+  where
+    go : (few : Bool) → eqb (length numbers) settingCount ≡ few → (few || eqb (length numbers) allSettings) ≡ true
+        → length (meant numbers) ≡ allSettings
+    go true e all =
+        let is = eqb-true (length numbers) settingCount e in
+        rw (meant-of-24 numbers is, length-append numbers (3 ∷ []), is)
+    go false e all =
+        let is = eqb-true (length numbers) allSettings all in
+        rw (meant-of-25 numbers is) is
+
+-- "with setting 25 = 3 it is the same load as L": what is meant means itself
+pub meant-again : (numbers : List ℕ) → (eqb (length numbers) settingCount || eqb (length numbers) allSettings) ≡ true
+    → meant (meant numbers) ≡ meant numbers
+meant-again numbers either = meant-of-25 (meant numbers) (length-meant numbers either)
