@@ -5,7 +5,6 @@ use Prim.Native.Char.{code}
 use mathlib.Core.List.{List}
 use lib.Dec.{eqb, ltb}
 use lib.ListN.{length}
-use Rattle.settings.specs.Settings.{settingCount}
 use Rattle.drive.specs.AnyCall.{Call, loads, cycles, ticks}
 use Rattle.records.specs.Decoded.{byte, numbers}
 use Rattle.records.specs.Front as shiftline
@@ -13,7 +12,7 @@ use Rattle.streams.specs.Run.{Front, end, unknown, short, whole}
 use Rattle.bench.specs.declared.find.Found.{Found}
 use Rattle.bench.specs.declared.find.Found.the-variants.{End, Unknown, Short, Load, Cycle, Tick}
 
--- the rows of the table: "L, C, T | as in `shiftline`"; "N | count (1 byte), then so many numbers"
+-- the rows of the table: "L, C, T | as in `shiftline`"; "M | as in `shiftline`"; "N | count (1 byte), then so many numbers"
 pub data Record : Type 0 where
   as-in-shiftline : Call → Record
   numbered : List ℕ → Record
@@ -52,7 +51,7 @@ abbrev pub found : Front Record → Found
 found end = End
 found unknown = Unknown
 found short = Short
-found (whole (as-in-shiftline (loads given))) = Load 1 settingCount
+found (whole (as-in-shiftline (loads given))) = Load 1 (length given)
 found (whole (as-in-shiftline (cycles fields))) = Cycle fields
 found (whole (as-in-shiftline (ticks fields))) = Tick fields
 found (whole (numbered given)) = Load 2 (length given)

@@ -37,7 +37,7 @@ pub(crate) fn find(input: &[u8], at: usize) -> Found
         records::Found::End => Found::End,
         records::Found::Unknown => Found::Unknown,
         records::Found::Short => Found::Short,
-        records::Found::Load => Found::Load(1, 24),
+        records::Found::Load(count) => Found::Load(1, count),
         records::Found::Cycle(fields) => Found::Cycle(fields),
         records::Found::Tick(fields) => Found::Tick(fields),
     }

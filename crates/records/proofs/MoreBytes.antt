@@ -9,19 +9,19 @@ use native.Mathlib.Omega.{arith}
 use lib.Dec.{T, eqb, ltb, ltb→lt}
 use lib.ListN.{length, length-append, List·getD-append}
 use borrow.Author.Tests.{ltb-true, ltb-false, le-ltb, ne-eqb, eqb-true, eqb-false}
-use Rattle.settings.specs.Settings.{settingCount}
+use Rattle.settings.specs.Settings.{settingCount, allSettings}
 use Rattle.drive.specs.AnyCall.{Call, loads, cycles, ticks}
-use Rattle.records.specs.Decoded.{byte, number, numbers, loadSize, settingsOf, cycleSize, cycleOf, tickSize, tickOf}
+use Rattle.records.specs.Decoded.{byte, number, numbers, loadSize, counts, settingsOf, cycleSize, cycleOf, tickSize, tickOf}
 use Rattle.streams.specs.Run.{Front, short, whole}
 use Rattle.streams.proofs.Grown as streams
 use Rattle.streams.proofs.Grown.{no-byte, no-record, a-part, a-record}
-use Rattle.records.specs.Front.{sizeOf, held, begun, front}
+use Rattle.records.specs.Front.{sizeOf, held, begun, front, longest}
 use Rattle.records.specs.Run.{mostHeld}
-use Rattle.records.proofs.Sizes.{at-most-longest}
+use Rattle.records.proofs.Sizes.{length-settings, size-of-load, load-at-most}
 
 -- the record is read off the bytes
 abbrev pub ReadOff : List ℕ → Call → Type 0
-ReadOff bytes (loads numbers) = numbers ≡ settingsOf bytes
+ReadOff bytes (loads numbers) = (counts (length numbers) ≡ true) × (numbers ≡ settingsOf (length numbers) bytes)
 ReadOff bytes (cycles fields) = fields ≡ cycleOf bytes
 ReadOff bytes (ticks fields) = fields ≡ tickOf bytes
 
@@ -46,9 +46,9 @@ module _ (a b : List ℕ) where
   numbers-kept zero at inside = refl
   numbers-kept (suc count) at inside = rw (number-kept at (omega arith), numbers-kept count (at + 2) (omega arith))
 
-  settings-kept : loadSize ≤ length a → settingsOf (a ++ b) ≡ settingsOf a
+  settings-kept : (count : ℕ) → loadSize count ≤ length a → settingsOf count (a ++ b) ≡ settingsOf count a
   unfolding settingsOf
-  settings-kept all = numbers-kept settingCount 1 (omega arith)
+  settings-kept count all = numbers-kept count 1 (omega arith)
 
   -- within the first bytes of a record
   module _ (size : ℕ) (all : size ≤ length a) where
@@ -71,21 +71,33 @@ module _ (a b : List ℕ) where
       let n = number-in tickSize all in
       rw (b 1 tt, b 2 tt, b 3 tt, n 4 tt, n 6 tt, n 8 tt, n 10 tt, n 12 tt, n 14 tt, n 16 tt, n 18 tt)
 
-  held-grown : (r s : Call) → ReadOff a r → (sizeOf r ≤ length a → s ≡ r)
-      → Grown a (held (length a) r) (held (length (a ++ b)) s)
-  held-grown r s off same = go (ltb (length a) (sizeOf r)) refl
+  held-grown : (size : ℕ) (r s : Call) → sizeOf r ≡ size → size ≤ longest → ReadOff a r → (size ≤ length a → s ≡ r)
+      → Grown a (held size (length a) r) (held size (length (a ++ b)) s)
+  held-grown size r s is at-most off same = go (ltb (length a) size) refl
     where
-      go : (few : Bool) → ltb (length a) (sizeOf r) ≡ few → Grown a (cond few short (whole r)) (held (length (a ++ b)) s)
-      go true e = a-part (omega (arith, at-most-longest r, ltb-true (length a) (sizeOf r) e))
+      go : (few : Bool) → ltb (length a) size ≡ few → Grown a (cond few short (whole r)) (held size (length (a ++ b)) s)
+      go true e = a-part (omega (arith, at-most, ltb-true (length a) size e))
       go false e =
-          let all : sizeOf r ≤ length a = ltb-false (length a) (sizeOf r) e in
-          rw (same all, le-ltb (length (a ++ b)) (sizeOf r) (omega (arith, all, length-append a b))) (a-record r off all)
+          let all : size ≤ length a = ltb-false (length a) size e in
+          rw (same all, le-ltb (length (a ++ b)) size (omega (arith, all, length-append a b)))
+          (a-record r off (omega (arith, is, all)))
+
+  load-grown : (count : ℕ) → counts count ≡ true
+      → Grown a (held (loadSize count) (length a) (loads (settingsOf count a)))
+      (held (loadSize count) (length (a ++ b)) (loads (settingsOf count (a ++ b))))
+  load-grown count known =
+      held-grown (loadSize count) (loads (settingsOf count a)) _ (size-of-load count a known) (load-at-most count known)
+      (rw (length-settings count a) (known, refl))
+      (λ all. ap loads (settings-kept count all))
 
   letters : Grown a (begun (byte 0 a) (length a) a) (begun (byte 0 a) (length (a ++ b)) (a ++ b))
   letters =
-      both (eqb (byte 0 a) (code "L")) (held-grown (loads (settingsOf a)) _ refl (λ all. ap loads (settings-kept all)))
-      (both (eqb (byte 0 a) (code "C")) (held-grown (cycles (cycleOf a)) _ refl (λ all. ap cycles (cycle-kept all)))
-      (both (eqb (byte 0 a) (code "T")) (held-grown (ticks (tickOf a)) _ refl (λ all. ap ticks (tick-kept all))) no-record))
+      both (eqb (byte 0 a) (code "L")) (load-grown settingCount refl)
+      (both (eqb (byte 0 a) (code "M")) (load-grown allSettings refl)
+      (both (eqb (byte 0 a) (code "C"))
+      (held-grown cycleSize (cycles (cycleOf a)) _ refl (omega arith) refl (λ all. ap cycles (cycle-kept all)))
+      (both (eqb (byte 0 a) (code "T"))
+      (held-grown tickSize (ticks (tickOf a)) _ refl (omega arith) refl (λ all. ap ticks (tick-kept all))) no-record)))
 
   begun-grown : (none : Bool) → eqb (length a) 0 ≡ none → Grown a (front a) (front (a ++ b))
   unfolding front

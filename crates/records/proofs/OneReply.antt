@@ -5,6 +5,9 @@ use Prim.Native.Nat.{ℕ}
 use Rattle.numbers.proofs.Reply.{OneReply, same}
 use Rattle.records.proofs as promises
 
+pub load-size : OneReply promises.load_size.ended promises.load_size.Reads.Post
+load-size κs given r s p q = same (p ∙⁻¹ q) refl
+
 pub read : OneReply promises.read.ended promises.read.Reads.Post
 read κs given r s p q = same (p ∙⁻¹ q) refl
 

@@ -1,13 +1,13 @@
 -- Document 01, "Report line and program": the numbers and fields in the bytes of a record.
 use Prim.Native.Nat.{ℕ, zero, suc, _+_, _*_}
-use mathlib.Core.Bool.{cond}
+use mathlib.Core.Bool.{Bool, _&&_, _||_, cond}
 use mathlib.Core.List.{List, [], _∷_}
 use lib.IntN.{ℤ}
-use lib.Dec.{ltb}
+use lib.Dec.{eqb, leb}
 use lib.ListN.{length, getD, replicate}
 use mir.Syntax.{w16}
 use mir.Val.{toZ}
-use Rattle.settings.specs.Settings.{settingCount}
+use Rattle.settings.specs.Settings.{settingCount, allSettings, meant}
 use Rattle.fields.specs.declared.Cycle.{Cycle}
 use Rattle.fields.specs.declared.Tick.{Tick}
 
@@ -28,16 +28,21 @@ unfoldable pub numbers : ℕ → ℕ → List ℕ → List ℕ
 numbers zero at bytes = []
 numbers (suc count) at bytes = number at bytes ∷ numbers count (at + 2) bytes
 
--- "L and 24 numbers"
-abbrev pub loadSize : ℕ
-loadSize = 1 + 2 * settingCount
+-- "L and 24 numbers"; 02, M-101: "A program record M carries 25."
+abbrev pub loadSize : ℕ → ℕ
+loadSize count = 1 + 2 * count
 
-unfoldable pub settingsOf : List ℕ → List ℕ
-settingsOf bytes = numbers settingCount 1 bytes
+unfoldable pub settingsOf : ℕ → List ℕ → List ℕ
+settingsOf count bytes = numbers count 1 bytes
 
--- the same of any bytes: zeros where they are fewer
-abbrev pub settingsIn : List ℕ → List ℕ
-settingsIn bytes = cond (ltb (length bytes) loadSize) (replicate settingCount 0) (settingsOf bytes)
+-- there is a record of so many numbers
+abbrev pub counts : ℕ → Bool
+counts count = eqb count settingCount || eqb count allSettings
+
+-- the settings that a load of so many numbers means, of any bytes: zeros where they are fewer, or where there is no such record
+abbrev pub settingsIn : ℕ → List ℕ → List ℕ
+settingsIn count bytes =
+    cond (counts count && leb (loadSize count) (length bytes)) (meant (settingsOf count bytes)) (replicate allSettings 0)
 
 -- "C, pattern byte and two numbers"
 abbrev pub cycleSize : ℕ

@@ -1,10 +1,10 @@
 // One record: the call that it asks for, and the line of its reply.
 use crate::CYCLE_SIZE;
 use crate::Found;
-use crate::LOAD_SIZE;
 use crate::Ran;
 use crate::TICK_SIZE;
 use crate::decoded::settings_of;
+use crate::load_size;
 use crate::read;
 use drive::Drive;
 use drive::answer::Reply;
@@ -18,6 +18,8 @@ ghost use lib.ListN.{length, drop};
 ghost use Rattle.report.specs.Refusals.{lineLength, accepts};
 ghost use Rattle.report.specs.Line.{line};
 ghost use Rattle.streams.specs.Run.{rest, refused, lined, runs, outputAfter};
+ghost use Rattle.drive.specs.Calls.{load};
+ghost use Rattle.records.specs.Decoded.{loadSize, counts, settingsOf};
 ghost use Rattle.records.specs.Run.{shiftline, ranOf};
 
 // Nothing is taken and nothing written.
@@ -60,6 +62,14 @@ fn refusing(drive: Drive, output: &mut [u8]) -> Ran
     answering(Reply { drive, answer }, 0, true, output)
 }
 
+// The reply to a load of so many numbers.
+fn loaded(drive: Drive, input: &[u8], at: usize, count: u8) -> Reply
+    requires { ⌜ (counts count ≡ true) × (at ≤ length (now input)) × (loadSize count ≤ length (drop at (now input))) ⌝ }
+    ensures { λ r. ⌜ r ≡ load drive (settingsOf count (drop at (now (input .entry)))) ⌝ }
+{
+    drive.load_settings(settings_of(&input[at..], count))
+}
+
 // One record at most: the run with fuel for one.
 pub(crate) fn step(drive: Drive, input: &[u8], at: usize, closed: bool, output: &mut [u8]) -> Ran
     ensures result { λ r. ⌜ r
@@ -81,10 +91,12 @@ pub(crate) fn step(drive: Drive, input: &[u8], at: usize, closed: bool, output: 
                 resting(drive)
             }
         }
-        Found::Load => {
-            let settings = settings_of(&input[at..]);
-            answering(drive.load_settings(settings), LOAD_SIZE, false, output)
-        }
+        Found::Load(count) => answering(
+            loaded(drive, input, at, count),
+            load_size(count),
+            false,
+            output,
+        ),
         Found::Cycle(fields) => answering(drive.cycle(fields), CYCLE_SIZE, false, output),
         Found::Tick(fields) => answering(drive.tick(fields), TICK_SIZE, false, output),
     }

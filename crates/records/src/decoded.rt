@@ -2,11 +2,14 @@
 use fields::Cycle;
 use fields::Tick;
 use numbers::signed;
-use settings::SETTING_COUNT;
+use settings::ALL_SETTINGS;
+use settings::USUAL_SENSORS;
 ghost use mathlib.Core.Path.{_≡_};
 ghost use Prim.Native.Nat.{_+_, _*_, _<_, _≤_};
+ghost use mathlib.Core.Bool.{true};
 ghost use lib.ListN.{length};
-ghost use Rattle.records.specs.Decoded.{number, signedNumber, loadSize, settingsOf, cycleSize, cycleOf, tickSize, tickOf};
+ghost use Rattle.settings.specs.Settings.{meant};
+ghost use Rattle.records.specs.Decoded.{number, signedNumber, loadSize, counts, settingsOf, cycleSize, cycleOf, tickSize, tickOf};
 
 // Two bytes as a number, high first.
 fn joined(high: u8, low: u8) -> u16
@@ -29,14 +32,15 @@ fn signed_number(bytes: &[u8], at: usize) -> i16
     signed(number(bytes, at))
 }
 
-// The numbers of a load.
-pub(crate) fn settings_of(bytes: &[u8]) -> [u16; SETTING_COUNT]
-    requires { ⌜ loadSize ≤ length (now bytes) ⌝ }
-    ensures { λ r. ⌜ r ≡ settingsOf (now (bytes .entry)) ⌝ }
+// The settings that the numbers of a load mean.
+pub(crate) fn settings_of(bytes: &[u8], count: u8) -> [u16; ALL_SETTINGS]
+    requires { ⌜ (counts count ≡ true) × (loadSize count ≤ length (now bytes)) ⌝ }
+    ensures { λ r. ⌜ r ≡ meant (settingsOf count (now (bytes .entry))) ⌝ }
 {
-    let mut settings = [0u16; SETTING_COUNT];
+    let count = count as usize;
+    let mut settings = [USUAL_SENSORS; ALL_SETTINGS];
     let mut i: usize = 0;
-    while i < SETTING_COUNT {
+    while i < count {
         settings[i] = number(bytes, 1 + 2 * i);
         i += 1;
     }

@@ -10,17 +10,29 @@ use decoded::tick_of;
 use drive::Drive;
 use fields::Cycle;
 use fields::Tick;
-use settings::SETTING_COUNT;
+use settings::ALL_SETTINGS;
 ghost use mathlib.Core.Path.{_≡_};
 ghost use Prim.Native.Nat.{_≤_};
+ghost use mathlib.Core.Bool.{cond};
+ghost use lib.Dec.{ltb};
 ghost use lib.ListN.{length, drop};
-ghost use Rattle.records.specs.Decoded.{settingsIn};
+ghost use Rattle.records.specs.Decoded.{loadSize, settingsIn};
 ghost use Rattle.records.specs.Front.{front, found};
+ghost use Rattle.records.specs.declared.Found.the-variants.{Short, Load};
 ghost use Rattle.streams.specs.Run.{run, outputAfter};
 ghost use Rattle.records.specs.Run.{shiftline, ranOf};
 
-// How many bytes a record has: a letter, and then the settings; a byte and two numbers; three bytes and eight numbers.
-pub const LOAD_SIZE: usize = 1 + 2 * SETTING_COUNT;
+// How many numbers a load has: in a record L, and in a record M.
+const FEW: u8 = 24;
+
+const ALL: u8 = 25;
+
+// How many bytes a record has: a letter, and then the numbers; a byte and two numbers; three bytes and eight numbers.
+pub fn load_size(count: u8) -> usize
+    ensures { λ r. ⌜ r ≡ loadSize count ⌝ }
+{
+    1 + 2 * (count as usize)
+}
 
 pub const CYCLE_SIZE: usize = 1 + 1 + 2 * 2;
 
@@ -41,15 +53,25 @@ pub struct Ran {
     pub ended: bool,
 }
 
-// What stands at a place of the input. A whole record is handed on as the call that it asks for; no enum holds an array, so the
-// numbers of a load are still to be read off its bytes.
+// What stands at a place of the input. A whole record is handed on as the call that it asks for; no enum holds an array, so of a load
+// it tells how many its numbers are, which are still to be read off its bytes.
 pub enum Found {
     End,
     Unknown,
     Short,
-    Load,
+    Load(u8),
     Cycle(Cycle),
     Tick(Tick),
+}
+
+fn load_of(count: u8, left: usize) -> Found
+    ensures { λ r. ⌜ r ≡ cond (ltb left (loadSize count)) Short (Load count) ⌝ }
+{
+    if left < load_size(count) {
+        Found::Short
+    } else {
+        Found::Load(count)
+    }
 }
 
 pub fn read(input: &[u8], at: usize) -> Found
@@ -61,10 +83,10 @@ pub fn read(input: &[u8], at: usize) -> Found
     let letter = input[at];
     let left = input.len() - at;
     if letter == b'L' {
-        if left < LOAD_SIZE {
-            return Found::Short;
-        }
-        return Found::Load;
+        return load_of(FEW, left);
+    }
+    if letter == b'M' {
+        return load_of(ALL, left);
     }
     if letter == b'C' {
         if left < CYCLE_SIZE {
@@ -81,17 +103,19 @@ pub fn read(input: &[u8], at: usize) -> Found
     Found::Unknown
 }
 
-// The numbers of the load that stands at a place, for whoever makes the call himself; zeros where the bytes of a load are not all there.
-pub fn settings_at(input: &[u8], at: usize) -> [u16; SETTING_COUNT]
-    ensures { λ r. ⌜ r ≡ settingsIn (drop at (now (input .entry))) ⌝ }
+// The settings that the load at a place means, which has so many numbers, for whoever makes the call himself; zeros where the bytes of
+// such a load are not all there.
+pub fn settings_at(input: &[u8], at: usize, count: u8) -> [u16; ALL_SETTINGS]
+    ensures { λ r. ⌜ r ≡ settingsIn count (drop at (now (input .entry))) ⌝ }
 {
     if input.len() <= at {
-        return [0u16; SETTING_COUNT];
+        return [0u16; ALL_SETTINGS];
     }
-    if input.len() - at < LOAD_SIZE {
-        return [0u16; SETTING_COUNT];
+    let known = (count == FEW) | (count == ALL);
+    if known & (load_size(count) <= input.len() - at) {
+        return settings_of(&input[at..], count);
     }
-    settings_of(&input[at..])
+    [0u16; ALL_SETTINGS]
 }
 
 // Takes whole records from the front of the input and writes their lines one after the other, until the input holds no whole record

@@ -1,12 +1,14 @@
 -- What the numbers of a load mean, by their count.
 use mathlib.Core.Path.{_≡_, refl}
 use mathlib.Core.Bool.{Bool, true, false, _||_}
-use mathlib.Core.List.{List, [], _∷_, _++_}
-use Prim.Native.Nat.{ℕ}
+use mathlib.Core.List.{List, [], _∷_, _++_, append-nil}
+use Prim.Native.Nat.{ℕ, _≤_}
 use native.Mathlib.Omega.{arith}
 use lib.Dec.{eqb}
-use lib.ListN.{length, length-append}
+use lib.ListN.{length, replicate, length-append}
+use lib.Seq.{take-all}
 use borrow.Author.Tests.{eq-eqb, ne-eqb, eqb-true}
+use Rattle.numbers.proofs.Fill.{filled}
 use Rattle.settings.specs.Settings.{settingCount, allSettings, meant}
 
 pub meant-of-24 : (numbers : List ℕ) → length numbers ≡ settingCount → meant numbers ≡ numbers ++ (3 ∷ [])
@@ -38,3 +40,20 @@ length-meant numbers either = go (eqb (length numbers) settingCount) refl either
 pub meant-again : (numbers : List ℕ) → (eqb (length numbers) settingCount || eqb (length numbers) allSettings) ≡ true
     → meant (meant numbers) ≡ meant numbers
 meant-again numbers either = meant-of-25 (meant numbers) (length-meant numbers either)
+
+-- a place for 25 that held threes, filled with the numbers
+abbrev pub threes : List ℕ
+threes = replicate allSettings 3
+
+pub filled-meant : (numbers : List ℕ) → (eqb (length numbers) settingCount || eqb (length numbers) allSettings) ≡ true
+    → (length numbers ≤ allSettings) × (filled threes numbers (length numbers) ≡ meant numbers)
+filled-meant numbers either = go (eqb (length numbers) settingCount) refl either
+  where
+    go : (few : Bool) → eqb (length numbers) settingCount ≡ few → (few || eqb (length numbers) allSettings) ≡ true
+        → (length numbers ≤ allSettings) × (filled threes numbers (length numbers) ≡ meant numbers)
+    go true e all =
+        let is = eqb-true (length numbers) settingCount e in
+        (omega (arith, is), rw (take-all (length numbers) numbers (omega arith), is, meant-of-24 numbers is))
+    go false e all =
+        let is = eqb-true (length numbers) allSettings all in
+        (omega (arith, is), rw (take-all (length numbers) numbers (omega arith), is, meant-of-25 numbers is) (append-nil numbers))

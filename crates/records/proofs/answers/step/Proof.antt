@@ -9,7 +9,7 @@ use denote.Ref.{now}
 use borrow.Author.Needs.{needs}
 use Rattle.drive.specs.AnyCall.{Call, loads, cycles, ticks, reply}
 use Rattle.drive.specs.declared.answer.Reply.{Reply}
-use Rattle.records.specs.Decoded.{loadSize, settingsOf}
+use Rattle.records.specs.Decoded.{loadSize}
 use Rattle.drive.specs.declared.Drive.{Drive}
 use Rattle.report.specs.Line.{line}
 use Rattle.streams.specs.Run.{Front, whole, Outcome, rest, refused, lined, follow, runs, outputAfter}
@@ -20,6 +20,7 @@ use Rattle.records.specs.Run.{shiftline, ranOf}
 use Rattle.records.specs.declared.Ran.{Ran}
 use Rattle.records.specs.declared.Found.{Found}
 use Rattle.records.specs.declared.Found.the-variants.{End, Unknown, Short, Load, Cycle, Tick}
+use Rattle.records.proofs.Sizes.{size-of-load}
 use Rattle.records.proofs.Printed.{reply-printed}
 use Rattle.records.proofs.WhatIsFound.{Meaning, meaning}
 use Rattle.records.proofs.answers.step.Statement.{statement}
@@ -66,17 +67,14 @@ module _ (c : tie.After-read) where
         → Met meant (now (start .args .output)) result left
     replied done = met _ (one-whole shiftline _ _ _ _ (c .before .if1 .left) r is) (rw same at done)
 
-loaded : (c : tie.After-enum-told4) → Meaning (bytes (c .before .before)) Load
-loaded c = means (c .before .before) Load (c .enum-told4 .given .1)
+loads-there : (c : tie.After-known-told) → Meaning (bytes (c .before .before .before)) (Load (c .before .count .given .0 .0))
+loads-there c = means (c .before .before .before) (Load _) (c .before .count .given .1)
 
-fits : (c : tie.After-enum-told4) → let args = start (c .before .before) .args in args .at + loadSize ≤ length (now (args .input))
-fits c = let args = start (c .before .before) .args in omega (arith, loaded c .1, length-drop (args .at) (now (args .input)))
-
--- what the load is answered
-same-load : (c : tie.After-load-settings)
-    → let read = c .before .before .before .before .before in
-    c .load-settings .result ≡ reply (start read .args .drive) (loads (settingsOf (bytes read)))
-same-load c = c .load-settings .ensures ∙ rw (c .before .settings-of .ensures, tail)
+loaded-requires : tie.Need-loaded-requires
+loaded-requires c κs =
+    let there = loads-there c in
+    let args = start (c .before .before .before) .args in
+    (there .2, omega (arith, there .1, length-drop (args .at) (now (args .input))), there .1)
 
 returns-2 : tie.Need-returns-2
 returns-2 c =
@@ -102,9 +100,11 @@ returns-5 c =
 
 returns-6 : tie.Need-returns-6
 returns-6 c =
-    let load = c .before .before .before .before in
-    let told = load .before .before .before in
-    replied (told .before .before) (loads _) (loaded told .0) (same-load load) (c .before .before .answering .ensures)
+    let size = c .before .before .before .before in
+    let told = size .before .before in
+    let there = loads-there told in
+    replied (told .before .before .before) (loads _) (there .0) (size .before .loaded .ensures)
+    (rw (size .load-size .ensures, ← size-of-load (told .before .count .given .0 .0) (bytes (told .before .before .before)) (there .2)) at (c .before .before .answering .ensures))
 
 returns-7 : tie.Need-returns-7
 returns-7 c =
@@ -128,12 +128,10 @@ step-spec =
     (λ c. met _ (at-tight shiftline 0 _ _ _ _ (c .before .if1 .taken)) (c .resting .ensures, refl))
     (search needs) (search needs) (search needs) (search needs) (search needs) (search needs) (search needs)
     (search needs) (search needs)
-    (λ c. omega (arith, fits c))
-    (λ c. omega (arith, fits c))
+    loaded-requires
     (search needs)
-    (λ c κs. simp tail (loaded (c .before) .1))
-    (search needs)
-    (λ c κs. reply-printed _ (loads _) _ (same-load (c .before)) (c .before .before .before .before .before .before .before .if1 .left))
+    (λ c κs. reply-printed _ (loads _) _ (c .before .before .loaded .ensures)
+    (c .before .before .before .before .before .before .before .if1 .left))
     (search needs) (search needs)
     (λ c κs. reply-printed _ (cycles _) _ (c .before .cycle .ensures) (c .before .before .before .before .before .before .if1 .left))
     (search needs) (search needs)
