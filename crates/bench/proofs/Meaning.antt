@@ -1,12 +1,13 @@
 -- What the reader's answer says of the bytes that it read: by what stands at their front.
 use mathlib.Core.Path.{_≡_, refl, sym, subst, ap, _∙_}
+use mathlib.Core.Bool.{true}
 use mathlib.Core.List.{List, []}
 use Prim.Native.Nat.{ℕ, _+_, _*_, _≤_, _<_}
 use native.Mathlib.Omega.{arith}
 use lib.ListN.{length}
 use Rattle.drive.specs.AnyCall.{loads, cycles, ticks}
-use Rattle.settings.specs.Settings.{settingCount}
-use Rattle.records.specs.Decoded.{byte, numbers, loadSize, settingsOf}
+use Rattle.records.specs.Decoded.{byte, numbers, loadSize, counts, settingsOf}
+use Rattle.records.proofs.Sizes.{size-of-load}
 use Rattle.records.proofs.Numbers.{length-numbers}
 use Rattle.streams.specs.Run.{Front, end, unknown, short, whole}
 use Rattle.streams.proofs.Grown.{no-byte, no-record, a-part, a-record}
@@ -33,11 +34,22 @@ Meaning bytes (Cycle fields) = front bytes ≡ whole (as-in-shiftline (cycles fi
 Meaning bytes (Tick fields) = front bytes ≡ whole (as-in-shiftline (ticks fields))
 
 module _ (bytes given : List ℕ) where
-  loaded : given ≡ settingsOf bytes → loadSize ≤ length bytes → front bytes ≡ whole (as-in-shiftline (loads given))
-      → Loads bytes 1 settingCount
+  loaded : counts (length given) ≡ true → given ≡ settingsOf (length given) bytes → sizeOf (as-in-shiftline (loads given)) ≤ length bytes
+      → front bytes ≡ whole (as-in-shiftline (loads given))
+      → Loads bytes 1 (length given)
   unfolding settingsOf
-  loaded off all is =
-      record { some = omega arith; it = as-in-shiftline (loads given); is = is; asks = ap loads off; size = refl; inside = all }
+  loaded known off all is =
+      let size : sizeOf (as-in-shiftline (loads given)) ≡ loadSize (length given) =
+      ap (λ (l : List ℕ). sizeOf (as-in-shiftline (loads l))) off ∙ size-of-load (length given) bytes known
+      in
+      record {
+        some = omega arith;
+        it = as-in-shiftline (loads given);
+        is = is;
+        asks = ap loads off;
+        size = size;
+        inside = omega (arith, size, all);
+      }
 
   counted : given ≡ numbers (byte 1 bytes) 2 bytes → numberedSize (length given) ≤ length bytes
       → front bytes ≡ whole (numbered given)
@@ -53,7 +65,7 @@ meaning bytes said e = subst (Meaning bytes) (sym e) (go (front bytes) (grown by
     go end (no-byte _) is = is
     go unknown no-record is = is
     go short (a-part _) is = is
-    go (whole _) (a-record (as-in-shiftline (loads given)) off all) is = loaded bytes given off all is
+    go (whole _) (a-record (as-in-shiftline (loads given)) (known, off) all) is = loaded bytes given known off all is
     go (whole _) (a-record (as-in-shiftline (cycles fields)) _ _) is = is
     go (whole _) (a-record (as-in-shiftline (ticks fields)) _ _) is = is
     go (whole _) (a-record (numbered given) off all) is = counted bytes given off all is

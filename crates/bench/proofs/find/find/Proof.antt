@@ -10,7 +10,6 @@ use denote.Ref.{now}
 use borrow.Author.Needs.{needs}
 use borrow.Author.Tests.{eq-eqb, ne-eqb, lt-ltb, le-ltb}
 use Rattle.numbers.proofs.Tests.{decide}
-use Rattle.settings.specs.Settings.{settingCount}
 use Rattle.drive.specs.AnyCall.{Call, loads, cycles, ticks}
 use Rattle.streams.specs.Run.{Front, end, unknown, short, whole}
 use Rattle.records.specs.Front as shiftline
@@ -27,7 +26,7 @@ again : read-found.Found → Found
 again read-found.the-variants.End = End
 again read-found.the-variants.Unknown = Unknown
 again read-found.the-variants.Short = Short
-again read-found.the-variants.Load = Load 1 settingCount
+again (read-found.the-variants.Load count) = Load 1 count
 again (read-found.the-variants.Cycle fields) = Cycle fields
 again (read-found.the-variants.Tick fields) = Tick fields
 
@@ -122,6 +121,6 @@ find-spec =
     (λ c. arm (c .before .before) _ (c .enum-told .given .1))
     (λ c. arm (c .before .before) _ (c .enum-told2 .given .1))
     (λ c. arm (c .before .before) _ (c .enum-told3 .given .1))
-    (λ c. arm (c .before .before) _ (c .enum-told4 .given .1))
+    (λ c. arm (c .before .before .before) _ (c .before .count .given .1))
     (λ c. arm (c .before .before .before) _ (c .before .fields .given .1))
     (λ c. arm (c .before .before .before) _ (c .before .fields2 .given .1)))
