@@ -5,14 +5,14 @@ use mathlib.Core.Bool.{Bool, true, false, not, _&&_}
 use mathlib.Core.List.{List, [], _∷_}
 use lib.Dec.{eqb}
 use lib.ListN.{replicate}
-use Rattle.settings.specs.Settings.{settingCount}
+use Rattle.settings.specs.Settings.{allSettings}
 use Rattle.drive.specs.AnyCall.{Call, loads, cycles, ticks}
 use Rattle.drive.specs.declared.answer.Answer.{Answer}
 use Rattle.theorems_history.specs.Log.{Entry}
 use Rattle.theorems_history.specs.Onlooker.{Asked, load, tick, neither, heard, isLoad, isTick, numbersAfter, remember, note, memoryOf}
 use Rattle.theorems_history.specs.Onlooker.{Memory as Remembered}
 use Rattle.fields.specs.declared.Tick.{Tick}
-use Rattle.onlooker.specs.Words.{words}
+use Rattle.onlooker.specs.Words.{words, deadAfter}
 use Rattle.onlooker.specs.Hears.{wait, recalled, held, hears, follows}
 use Rattle.onlooker.specs.Tells.{heardOf}
 use Rattle.onlooker.specs.declared.Memory.{Memory}
@@ -21,7 +21,7 @@ use Rattle.onlooker.proofs.Clipped.{clipped-on, due-again}
 -- the numbers of the last load; before the first he holds zeros and the history nothing, and every setting of either is 0
 pub data Same (numbers known : List ℕ) : Type 0 where
   loaded : numbers ≡ known → Same numbers known
-  unloaded : numbers ≡ replicate settingCount 0 → known ≡ [] → Same numbers known
+  unloaded : numbers ≡ replicate allSettings 0 → known ≡ [] → Same numbers known
 
 pub record Near (m : Memory) (r : Remembered) : Type 0 where
   pub numbers : Same (m .numbers) (r .numbers)
@@ -44,7 +44,7 @@ note-clipped false call answer r told = rw told
 
 -- nor do the zeros
 note-unloaded : (accepted : Bool) (call : Call) (answer : Answer) (r : Remembered) → eqb (answer .number) 0 ≡ accepted
-    → note words (clippedWith (replicate settingCount 0) r) (record { call = call; answer = answer })
+    → note words (clippedWith (replicate allSettings 0) r) (record { call = call; answer = answer })
     ≡ note words (clippedWith [] r) (record { call = call; answer = answer })
 note-unloaded true (loads numbers) answer r told = rw told
 note-unloaded true (cycles fields) answer r told = rw told
@@ -70,6 +70,13 @@ same-after (load numbers) same = loaded refl
 same-after (tick fields) same = same
 same-after neither same = same
 
+-- which samples are dead is told alike
+same-dead : (call : Call) (dead : ℕ) {a b : List ℕ} → Same a b → deadAfter a call dead ≡ deadAfter b call dead
+same-dead call dead (loaded same) = rw same
+same-dead (loads numbers) dead (unloaded zeros none) = refl
+same-dead (cycles fields) dead (unloaded zeros none) = rw (zeros, none)
+same-dead (ticks fields) dead (unloaded zeros none) = refl
+
 near-after : (m : Memory) (r : Remembered) (e : Entry Call Answer)
     → Near m r → Near (held (remember words (recalled m) e)) (remember words r e)
 near-after m r e near =
@@ -79,7 +86,7 @@ near-after m r e near =
       waited =
           rw (near .shown, near .waited)
           (clipped-on (eqb (r .shown) 5 && not (isLoad words (heard words e))) (isTick words (heard words e)) (r .waited));
-      dead = rw (near .dead);
+      dead = rw (near .dead, same-dead (e .call) (r .dead) (near .numbers));
     }
 
 pub near : (log : List (Entry Call Answer)) → Near (heardOf log .memory) (memoryOf words log)

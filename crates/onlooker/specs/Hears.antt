@@ -6,7 +6,7 @@ use mathlib.Core.List.{List}
 use lib.Dec.{eqb, leb}
 use lib.ListN.{replicate}
 use Rattle.numbers.specs.Count.{up}
-use Rattle.settings.specs.Settings.{settingCount}
+use Rattle.settings.specs.Settings.{allSettings}
 use Rattle.fields.specs.declared.Tick.{Tick}
 use Rattle.drive.specs.AnyCall.{Call}
 use Rattle.drive.specs.declared.answer.Answer.{Answer}
@@ -56,7 +56,7 @@ inCode call =
 abbrev pub nothingHeard : Onlooker
 nothingHeard =
     record {
-      memory = record { numbers = replicate settingCount 0; shown = 0; waited = 0; dead = 0 };
+      memory = record { numbers = replicate allSettings 0; shown = 0; waited = 0; dead = 0 };
       seen =
           record {
             loaded = false;

@@ -5,29 +5,27 @@
 -- to ask for them, and while the drive runs the live word tells them.
 use Prim.Native.Nat.{ℕ, _-_, _/_, _%_, _^_}
 use mathlib.Core.Bool.{Bool, not, _&&_, _||_, cond}
-use mathlib.Core.List.{List}
+use mathlib.Core.List.{List, [], _∷_, _++_}
 use lib.Dec.{eqb, ltb, leb}
-use lib.ListN.{getD}
+use lib.ListN.{length, getD}
 use Rattle.numbers.specs.Count.{up}
 use Rattle.theorems_history.specs.Onlooker.{Asked, load, tick, neither, Words}
 use Rattle.drive.specs.AnyCall.{Call, loads, cycles, ticks}
 use Rattle.drive.specs.declared.answer.Answer.{Answer}
 use Rattle.fields.specs.declared.Tick.{Tick}
 
+-- 02, M-101: "a load of 24 numbers means 3"
+abbrev pub asLoaded : List ℕ → List ℕ
+asLoaded numbers = cond (eqb (length numbers) 24) (numbers ++ (3 ∷ [])) numbers
+
 -- "Three calls change the state: load (settings), cycle .. and tick"
 abbrev pub asked : Call → Asked Tick
-asked (loads numbers) = load numbers
+asked (loads numbers) = load (asLoaded numbers)
 asked (cycles fields) = neither
 asked (ticks fields) = tick fields
 
--- "0 or 7: dead streak up by one, at most 2"; any other pattern leaves it at zero, and so does a load
-abbrev pub deadAfter : Call → ℕ → ℕ
-deadAfter (loads numbers) dead = 0
-deadAfter (cycles fields) dead = cond (eqb (fields .pattern) 0 || eqb (fields .pattern) 7) (up 2 dead) 0
-deadAfter (ticks fields) dead = dead
-
 -- the loaded numbers by the paper's places: 1 ControlMode, 2 FaultEnable, 3 VdcOvLevel, 4 VdcLvLevel, 5 CriticalOvLevel, 6 Tshutdown,
--- 21 CmdStart, 22 CmdStop, 24 RetryLimit
+-- 21 CmdStart, 22 CmdStop, 24 RetryLimit, 25 the number of sensors
 abbrev pub setting : ℕ → List ℕ → ℕ
 setting n s = getD s (n - 1) 0
 
@@ -37,6 +35,16 @@ isMode1 s = eqb (setting 1 s) 1
 -- "A flag is live if its FaultEnable bit is 1"
 abbrev pub enabled : ℕ → List ℕ → Bool
 enabled flag s = eqb ((setting 2 s / 2 ^ flag) % 2) 1
+
+-- "0 or 7: dead streak up by one, at most 2"; any other pattern leaves it at zero, and so does a load. 02, M-101, of two sensors: "The
+-- dead-pattern test does not apply."
+abbrev pub isDead : List ℕ → ℕ → Bool
+isDead s pattern = not (eqb (setting 25 s) 2) && (eqb pattern 0 || eqb pattern 7)
+
+abbrev pub deadAfter : List ℕ → Call → ℕ → ℕ
+deadAfter s (loads numbers) dead = 0
+deadAfter s (cycles fields) dead = cond (isDead s (fields .pattern)) (up 2 dead) 0
+deadAfter s (ticks fields) dead = dead
 
 -- "Mode 0: low is command 0, high is command 1. Mode 1: low is control at most CmdStop, high is control at least CmdStart."
 abbrev pub lowOf : List ℕ → Tick → Bool
@@ -79,7 +87,7 @@ words =
       high = highOf;
       clear = λ t. eqb (t .clear) 1;
       cause = causeOf;
-      deadAfter = λ s. deadAfter;
+      deadAfter = deadAfter;
       deadCause = deadCauseOf;
       -- "in mode 1, from its 10,000th tick on, with fewer than RetryLimit retries used"
       timed = isMode1;

@@ -26,7 +26,8 @@ use past::next;
 use scene::DARK;
 use scene::Scene;
 use scene::with_call;
-use settings::SETTING_COUNT;
+use settings::ALL_SETTINGS;
+use words::is_dead;
 ghost use mathlib.Core.Bool.{cond};
 ghost use mathlib.Core.Path.{_≡_};
 ghost use Rattle.drive.specs.AnyCall.{loads, cycles, ticks};
@@ -35,7 +36,7 @@ ghost use Rattle.onlooker.specs.Hears.{heardWith, nothingHeard, hears};
 // What he remembers: the numbers of the last accepted load, the state that the last answer showed, the accepted ticks in FAULT (he
 // stops at 10,000), and the dead samples in a row.
 pub struct Memory {
-    pub numbers: [u16; SETTING_COUNT],
+    pub numbers: [u16; ALL_SETTINGS],
     pub shown: u8,
     pub waited: u32,
     pub dead: u32,
@@ -53,9 +54,9 @@ pub struct Onlooker {
 
 fn pick_numbers(
     test: bool,
-    yes: [u16; SETTING_COUNT],
-    no: [u16; SETTING_COUNT],
-) -> [u16; SETTING_COUNT]
+    yes: [u16; ALL_SETTINGS],
+    no: [u16; ALL_SETTINGS],
+) -> [u16; ALL_SETTINGS]
     ensures { λ r. ⌜ r ≡ cond test yes no ⌝ }
 {
     if test { yes } else { no }
@@ -73,7 +74,7 @@ impl Onlooker {
         ensures { λ r. ⌜ r ≡ nothingHeard ⌝ }
     {
         let memory = Memory {
-            numbers: [0u16; SETTING_COUNT],
+            numbers: [0u16; ALL_SETTINGS],
             shown: 0,
             waited: 0,
             dead: 0,
@@ -107,7 +108,7 @@ impl Onlooker {
         }
     }
 
-    pub fn load(self, numbers: [u16; SETTING_COUNT], answer: Answer) -> Onlooker
+    pub fn load(self, numbers: [u16; ALL_SETTINGS], answer: Answer) -> Onlooker
         ensures { λ r. ⌜ r ≡ hears self (record { call = loads numbers; answer = answer }) ⌝ }
     {
         let accepted = answer.number == 0;
@@ -128,7 +129,7 @@ impl Onlooker {
     {
         let before = self.memory;
         let numbers = before.numbers;
-        let dead = (fields.pattern == 0) | (fields.pattern == 7);
+        let dead = is_dead(numbers, fields.pattern);
         let streak = pick_u32(dead, count_up(before.dead, 2), 0);
         let now = Memory {
             numbers,

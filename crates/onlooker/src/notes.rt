@@ -11,8 +11,8 @@ use crate::words::low_of;
 use drive::answer::Answer;
 use fields::Tick;
 use numbers::count_up;
+use settings::ALL_SETTINGS;
 use settings::RETRY_LIMIT;
-use settings::SETTING_COUNT;
 ghost use mathlib.Core.Path.{_≡_};
 ghost use Rattle.onlooker.specs.Hears.{askedByLoad, askedByTick, waitedAfter, seenBy};
 
@@ -48,7 +48,7 @@ pub(crate) fn asked_by_load(accepted: bool) -> Asked
     }
 }
 
-pub(crate) fn asked_by_tick(accepted: bool, numbers: [u16; SETTING_COUNT], tick: Tick) -> Asked
+pub(crate) fn asked_by_tick(accepted: bool, numbers: [u16; ALL_SETTINGS], tick: Tick) -> Asked
     ensures { λ r. ⌜ r ≡ askedByTick accepted numbers tick ⌝ }
 {
     Asked {

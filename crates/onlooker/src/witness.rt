@@ -4,7 +4,7 @@ use drive::Drive;
 use drive::answer::Answer;
 use fields::Cycle;
 use fields::Tick;
-use settings::SETTING_COUNT;
+use settings::ALL_SETTINGS;
 ghost use mathlib.Core.Path.{_≡_};
 ghost use Rattle.drive.specs.AnyCall.{loads, cycles, ticks};
 ghost use Rattle.onlooker.specs.Witness.{witnessed};
@@ -16,7 +16,7 @@ pub struct Heard {
 }
 
 impl Heard {
-    pub fn load(self, numbers: [u16; SETTING_COUNT]) -> Heard
+    pub fn load(self, numbers: [u16; ALL_SETTINGS]) -> Heard
         ensures { λ r. ⌜ r ≡ witnessed (self .drive) (self .onlooker) (loads numbers) ⌝ }
     {
         let drive = self.drive;

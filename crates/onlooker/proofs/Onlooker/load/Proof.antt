@@ -1,9 +1,14 @@
 -- `load` remembers and notes what the history's onlooker does.
 use borrow.Author.Needs.{needs}
-use mathlib.Core.Path.{refl}
+use mathlib.Core.Path.{_≡_, refl}
+use lib.ListN.{length}
+use Rattle.settings.specs.Settings.{allSettings}
 use Rattle.onlooker.proofs.Heard.{load-heard}
 use Rattle.onlooker.proofs.Onlooker.load.Statement.{statement}
 use Rattle.onlooker.proofs.Onlooker.load.Tie as tie
+
+counted : (start : tie.Start) → length (start .args .numbers) ≡ allSettings
+counted start = search needs
 
 returns : tie.Need-returns
 returns c =
@@ -16,7 +21,7 @@ returns c =
       c .before .before .before .waited .ensures,
       picked .pick-numbers .ensures,
     )
-    (load-heard _ (start .args .self) (start .args .numbers) (start .args .answer) refl)
+    (load-heard _ (start .args .self) (start .args .numbers) (start .args .answer) (counted start) refl)
 
 pub load-spec : {M : Type 1} → statement M
 load-spec =
