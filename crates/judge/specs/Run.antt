@@ -50,7 +50,7 @@ abbrev pub wantedBy : Bool → Found → ℕ
 wantedBy closed End = cond closed wantsNothing wantsRecords
 wantedBy closed Short = cond closed wantsTurn wantsRecords
 wantedBy closed Unknown = wantsTurn
-wantedBy closed Load = wantsTurn
+wantedBy closed (Load count) = wantsTurn
 wantedBy closed (Cycle fields) = wantsTurn
 wantedBy closed (Tick fields) = wantsTurn
 

@@ -157,7 +157,7 @@ fn wanted(found: Found, closed: bool) -> u8
         Found::End => pick_u8(closed, NOTHING, RECORDS),
         Found::Short => pick_u8(closed, TURN, RECORDS),
         Found::Unknown => TURN,
-        Found::Load => TURN,
+        Found::Load(_) => TURN,
         Found::Cycle(_) => TURN,
         Found::Tick(_) => TURN,
     }

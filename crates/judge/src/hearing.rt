@@ -10,15 +10,15 @@ use fields::Tick;
 use onlooker::Onlooker;
 use records::CYCLE_SIZE;
 use records::Found;
-use records::LOAD_SIZE;
 use records::TICK_SIZE;
+use records::load_size;
 use records::settings_at;
-use settings::SETTING_COUNT;
+use settings::ALL_SETTINGS;
 ghost use mathlib.Core.Path.{_≡_};
 ghost use lib.ListN.{drop};
-ghost use Rattle.drive.specs.AnyCall.{loads, cycles, ticks};
+ghost use Rattle.drive.specs.AnyCall.{cycles, ticks};
 ghost use Rattle.records.specs.Front.{front, found as readAs};
-ghost use Rattle.judge.specs.Hearing.{heardCall, heardNothing, heardAt};
+ghost use Rattle.judge.specs.Hearing.{heardCall, heardLoad, heardNothing, heardAt};
 
 // How it ends the judgement, and how many bytes it has.
 pub(crate) struct Heard {
@@ -41,14 +41,21 @@ fn nothing(drive: Drive, onlooker: Onlooker) -> Heard
     }
 }
 
-fn load(drive: Drive, onlooker: Onlooker, answer: Answer, numbers: [u16; SETTING_COUNT]) -> Heard
-    ensures { λ r. ⌜ r ≡ heardCall drive onlooker answer (loads numbers) ⌝ }
+// All 25 settings, of a record with so many numbers.
+fn load(
+    drive: Drive,
+    onlooker: Onlooker,
+    answer: Answer,
+    settings: [u16; ALL_SETTINGS],
+    count: u8,
+) -> Heard
+    ensures { λ r. ⌜ r ≡ heardLoad drive onlooker answer settings count ⌝ }
 {
     Heard {
-        reply: drive.load_settings(numbers),
-        onlooker: onlooker.load(numbers, answer),
+        reply: drive.load_settings(settings),
+        onlooker: onlooker.load(settings, answer),
         end: GOING,
-        size: LOAD_SIZE,
+        size: load_size(count),
     }
 }
 
@@ -90,7 +97,13 @@ pub(crate) fn hear(
         Found::End => nothing(drive, onlooker),
         Found::Unknown => nothing(drive, onlooker),
         Found::Short => nothing(drive, onlooker),
-        Found::Load => load(drive, onlooker, answer, settings_at(input, at)),
+        Found::Load(count) => load(
+            drive,
+            onlooker,
+            answer,
+            settings_at(input, at, count),
+            count,
+        ),
         Found::Cycle(fields) => cycle(drive, onlooker, answer, fields),
         Found::Tick(fields) => tick(drive, onlooker, answer, fields),
     }

@@ -13,19 +13,21 @@ use Rattle.faults.proofs.Bits.{old-stays, new-bit, bit-flag, none-within, both-
 use Rattle.states.specs.States.{is, turning}
 use Rattle.states.specs.declared.State.{State}
 use Rattle.states.proofs.Every.{at-every}
-use Rattle.settings.specs.Settings.{settingCount, FaultEnable, HallAngleOffset}
+use Rattle.settings.specs.Settings.{settingCount, meant, FaultEnable, HallAngleOffset}
 use Rattle.verdicts.specs.Table.{verdict}
-use Rattle.drive.specs.Refusals.{loadRows, cycleRows, tickRows}
+use Rattle.drive.specs.Refusals.{highestPattern, loadRows, cycleRows, tickRows}
 use Rattle.drive.specs.Flags.{alwaysLive}
 use Rattle.drive.specs.Causes.{causeBits}
 use Rattle.drive.specs.Calls as Calls
-use Rattle.drive.specs.Calls.{powerUp, fresh, sample, cycled}
+use Rattle.drive.specs.Calls.{powerUp, fresh, loaded, sample, cycled}
 use Rattle.drive.specs.Ticks as Ticks
 use Rattle.drive.specs.Ticks.{ticked}
 use Rattle.drive.specs.declared.Drive.{Drive}
 use Rattle.fields.specs.declared.Cycle.{Cycle}
 use Rattle.fields.specs.declared.Tick.{Tick}
 use Rattle.states.specs.declared.State.the-variants.{Idle, Stop}
+use Rattle.hall.specs.declared.layout.Sensors.{Sensors}
+use Rattle.hall.specs.declared.layout.Sensors.the-variants.{Three}
 use Rattle.theorems_reached.specs.Reached.{Loaded, Reached}
 use Rattle.drive.specs.AnyCall.{Call, loads, cycles, ticks, reply}
 use Rattle.theorems_history.specs.Log.{stateAfter}
@@ -41,23 +43,23 @@ use Rattle.theorems_reached.proofs.Ticks.{ticked-reached}
 
 -- "clears everything else to power-up values": of power-up and of an accepted load alike
 fresh-reached :
-    (s : State) (numbers : List ℕ)
+    (s : State) (settings : List ℕ) (sensors : Sensors)
     → T (is 0 s || is 1 s)
-    → (T (is 0 s) → fresh s numbers ≡ powerUp)
-    → (T (not (is 0 s)) → Loaded numbers)
-    → Reached (fresh s numbers)
-fresh-reached s numbers first idle loaded =
+    → (T (is 0 s) → fresh s settings sensors ≡ powerUp)
+    → (T (not (is 0 s)) → Loaded settings)
+    → Reached (fresh s settings sensors)
+fresh-reached s settings sensors first idle loaded =
     let stands = at-every (λ s. is 0 s || is 1 s) (λ s. not (turning s)) tt s first in
     let elsewhere = at-every (λ s. is 0 s || is 1 s) (λ s. not (is 2 s)) tt s first in
     let safe = at-every (λ s. is 0 s || is 1 s) (λ s. not (is 5 s)) tt s first in
     record {
       idle = idle;
       settings = loaded;
-      hall = hall-power-up;
+      hall = hall-power-up sensors;
       cycles = omega arith;
       ticks = omega arith;
       retries = omega arith;
-      run = at-rest-in s numbers (at-every (λ s. is 0 s || is 1 s) (λ s. not (is 4 s)) tt s first);
+      run = at-rest-in s settings (at-every (λ s. is 0 s || is 1 s) (λ s. not (is 4 s)) tt s first);
       offsets =
           record {
             within = unmeasured-within _;
@@ -76,30 +78,31 @@ fresh-reached s numbers first idle loaded =
     }
 
 pub reached-power-up : Reached powerUp
-reached-power-up = fresh-reached Idle (replicate settingCount 0) tt (λ t. refl) (λ t. absurd t)
+reached-power-up = fresh-reached Idle (replicate settingCount 0) Three tt (λ t. refl) (λ t. absurd t)
 
 -- Each of the three calls keeps it, accepted or refused, whatever numbers it is told.
 pub load-keeps : (d : Drive) (numbers : List ℕ) → Reached d → Reached (Calls.load d numbers .drive)
 unfolding Calls.load
 load-keeps d numbers r =
-    settled Reached (verdict (loadRows d numbers)) (fresh Stop numbers) d
-    (λ e. fresh-reached Stop numbers tt (λ t. absurd t) (λ t. accepted-settings d numbers e))
+    settled Reached (verdict (loadRows d numbers)) (loaded (meant numbers)) d
+    (λ e. fresh-reached Stop _ _ tt (λ t. absurd t) (λ t. accepted-settings d numbers e))
     r
 
--- an accepted cycle: outside IDLE, with samples of at most 4095
+-- an accepted cycle: outside IDLE, with a pattern of the sensors and samples of at most 4095
 pub cycled-reached :
     (d : Drive) (c : Cycle)
     → Reached d
     → T (not (is 0 (d .state)))
+    → c .pattern ≤ highestPattern (d .sensors)
     → c .first ≤ 4095
     → c .second ≤ 4095
     → Reached (cycled d c)
 unfolding cycled
-cycled-reached d c r outside first second =
+cycled-reached d c r outside pattern first second =
     record {
       idle = λ t. absurd (T-not (is 0 (d .state)) t outside);
       settings = r .settings;
-      hall = sampled-within (d .hall) (r .hall) (c .pattern) (toZ w16 (HallAngleOffset (d .settings)));
+      hall = sampled-within (d .sensors) (d .hall) (r .hall) (c .pattern) (toZ w16 (HallAngleOffset (d .settings))) pattern;
       cycles = omega arith;
       ticks = r .ticks;
       retries = r .retries;
@@ -112,7 +115,7 @@ cycled-reached d c r outside first second =
             quiet = λ t. rw (same-but-hall (d .settings) (d .flags) (sample d c .flagged)) (r .flags .quiet t);
             tripped = λ t. old-stays alwaysLive (FaultEnable (d .settings)) (d .flags) _ (r .flags .tripped t);
             dead = λ live two.
-                new-bit 15 (d .flags) _ (bit-flag 15 (sample d c .flagged) (dead-flagged (d .hall) (c .pattern) _ two));
+                new-bit 15 (d .flags) _ (bit-flag 15 (sample d c .flagged) (dead-flagged (d .sensors) (d .hall) (c .pattern) _ two));
           };
     }
 
@@ -121,7 +124,8 @@ unfolding Calls.cycle
 cycle-keeps d c r =
     settled Reached (verdict (cycleRows d c)) (cycled d c) d
     (λ e.
-    let p = passed (cycleRows d c) tt e in cycled-reached d c r (p .0) (ltb-no (p .1 .1 .0)) (ltb-no (p .1 .1 .1 .0)))
+    let p = passed (cycleRows d c) tt e in
+    cycled-reached d c r (p .0) (ltb-no (p .1 .0)) (ltb-no (p .1 .1 .0)) (ltb-no (p .1 .1 .1 .0)))
     r
 
 pub tick-keeps : (d : Drive) (t : Tick) → Reached d → Reached (Ticks.tick d t .drive)

@@ -1,15 +1,19 @@
 -- An accepted load was made in IDLE or STOP, and its settings keep their rules: each lies in its range, and stands to others as it must.
 use mathlib.Core.Path.{_≡_}
-use mathlib.Core.Bool.{Bool, _&&_, _||_}
+use mathlib.Core.Bool.{Bool, true, _&&_, _||_}
 use mathlib.Core.List.{List, [], _∷_, map}
 use Prim.Native.Nat.{ℕ, zero, suc, _+_, _≤_, _<_}
+use native.Mathlib.Omega.{arith}
 use native.Mathlib.Nat.{le-of-suc-le-suc, not-suc-le-zero}
 use lib.Dec.{T, eqb, leb, eqb→eq, leb→le}
-use lib.ListN.{length, getD}
+use lib.Ieee.Bits.{is-true}
+use lib.ListN.{length, getD, take, length-take}
 use mir.Facts.{T-not-not, and-yes}
 use Rattle.verdicts.specs.Table.{verdict}
 use Rattle.verdicts.proofs.Passed.{Passed, passed}
-use Rattle.settings.specs.Settings.{settingCount}
+use Rattle.numbers.proofs.Fill.{first-at}
+use Rattle.settings.specs.Settings.{settingCount, allSettings, meant}
+use Rattle.settings.proofs.Meant.{length-meant}
 use Rattle.settings.specs.Rules.{rule, related, indices, lowest, highest, settingRow, settingRows}
 use Rattle.settings.proofs.Places.{place-at}
 use Rattle.states.specs.States.{is}
@@ -35,13 +39,41 @@ pub accepted-state :
 unfolding settingRows
 accepted-state d numbers e = T-not-not (is 0 (d .state) || is 1 (d .state)) (passed (loadRows d numbers) tt e .0)
 
-pub accepted-settings : (d : Drive) (numbers : List ℕ) → verdict (loadRows d numbers) .number ≡ 0 → Loaded numbers
+-- a rule asks the 24 settings that the drive keeps as it asked the numbers of the load
+rule-kept : (s : List ℕ) → length s ≡ allSettings → (i : ℕ) → i < settingCount → rule (take settingCount s) i ≡ rule s i
+rule-kept s all i h =
+    let kept : (k : ℕ) → k < settingCount → getD (take settingCount s) k 0 ≡ getD s k 0 =
+    λ k below. first-at settingCount s k below (omega (arith, all))
+    in
+    rw (
+      kept i h,
+      kept 2 (omega arith),
+      kept 3 (omega arith),
+      kept 4 (omega arith),
+      kept 20 (omega arith),
+      kept 21 (omega arith),
+    )
+
+-- numbers that are accepted are 24 or 25
+pub accepted-count : (d : Drive) (numbers : List ℕ) → verdict (loadRows d numbers) .number ≡ 0
+    → (eqb (length numbers) settingCount || eqb (length numbers) allSettings) ≡ true
+unfolding settingRows
+accepted-count d numbers e =
+    let either : Bool = eqb (length numbers) settingCount || eqb (length numbers) allSettings in
+    is-true either (T-not-not either (passed (loadRows d numbers) tt e .1 .0))
+
+pub accepted-settings : (d : Drive) (numbers : List ℕ) → verdict (loadRows d numbers) .number ≡ 0
+    → Loaded (take settingCount (meant numbers))
 unfolding settingRows
 accepted-settings d numbers e =
     let p = passed (loadRows d numbers) tt e in
+    let s : List ℕ = meant numbers in
+    let all : length s ≡ allSettings = length-meant numbers (accepted-count d numbers e) in
     record {
-      count = eqb→eq (length numbers) settingCount (T-not-not (eqb (length numbers) settingCount) (p .1 .0));
-      rules = λ i h. rw (place-at i h) at (rule-at numbers indices (p .1 .1) i h);
+      count = omega (arith, all, length-take settingCount s);
+      rules = λ i h.
+          rw (rule-kept s all i h)
+          (rw (place-at i (omega (arith, h))) at (rule-at s indices (p .1 .1) i (omega (arith, h))));
     }
 
 -- an accepted setting lies in the range of its place, and in the relation that its place asks for

@@ -8,10 +8,12 @@ use lib.IntN.{natAbs}
 use lib.ListN.{length}
 use mir.Syntax.{w16}
 use mir.Val.{SFits}
-use Rattle.hall.specs.Fate.{clockwise, among}
+use Rattle.hall.specs.Layout.{Layout, layout, among}
 use Rattle.hall.specs.declared.Hall.{Hall}
 use Rattle.hall.specs.declared.fate.Kept.{Kept}
 use Rattle.hall.specs.declared.fate.Kept.the-variants.{Nothing, Pattern}
+use Rattle.hall.specs.declared.layout.Sensors.{Sensors}
+use Rattle.hall.specs.declared.layout.Sensors.the-variants.{Two}
 use Rattle.states.specs.States.{is, turning}
 use Rattle.states.specs.declared.State.{State}
 use Rattle.settings.specs.Settings.{settingCount, samples, FaultEnable, FluxFaultTime, RotorLockTime, HallTimeoutPeriod}
@@ -34,14 +36,14 @@ pub record Loaded (settings : List ℕ) : Type 0 where
   -- each keeps the rule of its place, counted from 0
   pub rules : (i : ℕ) → i < settingCount → T (rule settings i)
 
--- the kept pattern is none, or one of 1, 3, 2, 6, 4, 5
-abbrev pub Known : Kept → Type 0
-Known Nothing = Unit {0}
-Known (Pattern p) = T (among clockwise p)
+-- the kept pattern is none, or one of the layout's
+abbrev pub Known : Layout → Kept → Type 0
+Known l Nothing = Unit {0}
+Known l (Pattern p) = T (among (l .order) p)
 
 -- the Hall part
-pub record HallWithin (hall : Hall) : Type 0 where
-  pub kept : Known (hall .kept)
+pub record HallWithin (sensors : Sensors) (hall : Hall) : Type 0 where
+  pub kept : Known (layout sensors) (hall .kept)
   -- "The position counter runs modulo 2^32."
   pub position : hall .position < 2 ^ 32
   -- "angle [is] signed 16-bit"
@@ -49,6 +51,8 @@ pub record HallWithin (hall : Hall) : Type 0 where
   -- "dead streak up by one, at most 2"; "At 2, .. the kept pattern is forgotten."
   pub dead : hall .«dead_streak» ≤ 2
   pub forgotten : hall .«dead_streak» ≡ 2 → hall .kept ≡ Nothing
+  -- 02, M-101, of two sensors: "The dead-pattern test does not apply."
+  pub never-dead : sensors ≡ Two → hall .«dead_streak» ≡ 0
   -- "At 3, .. the stray streak returns to zero."
   pub stray : hall .«stray_streak» ≤ 2
   -- the still count "grows to at most 4096"
@@ -110,9 +114,9 @@ pub record FlagsIn (state : State) (settings : List ℕ) (deadStreak flags : ℕ
 pub record Reached (d : Drive) : Type 0 where
   -- IDLE is power-up: the first accepted load leaves it, and nothing comes back
   pub idle : T (is 0 (d .state)) → d ≡ powerUp
-  -- elsewhere the settings are those of an accepted load
+  -- elsewhere the 24 settings are those of an accepted load
   pub settings : T (not (is 0 (d .state))) → Loaded (d .settings)
-  pub hall : HallWithin (d .hall)
+  pub hall : HallWithin (d .sensors) (d .hall)
   -- "Cycles in the present state are counted to at most 65535", and so are ticks
   pub cycles : d .cycles ≤ 65535
   pub ticks : d .ticks ≤ 65535

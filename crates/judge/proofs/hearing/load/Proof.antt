@@ -5,4 +5,5 @@ use Rattle.judge.proofs.hearing.load.Tie as tie
 
 pub load-spec : {M : Type 1} → statement M
 load-spec =
-    tie.close (tie.spec (search needs) (search needs) (λ c. rw (c .load .ensures, c .before .load-settings .ensures)))
+    tie.close (tie.spec (search needs) (search needs) (search needs)
+    (λ c. rw (c .load-size .ensures, c .before .load .ensures, c .before .before .load-settings .ensures)))
