@@ -7,12 +7,13 @@ use Rattle.drive.specs.Answer
 use Rattle.drive.specs.Causes
 use Rattle.motor.specs.Counts
 use Rattle.moves.specs.Moves
+use Rattle.settings.specs.Settings
 use Rattle.settings.specs.Rules
 use Rattle.drive.specs.Calls
 use Rattle.drive.specs.Ticks
 
 unfoldable pub computes : Unit {0}
-unfolding Fate.fate Fate.beside Angle.twelfth Angle.sectorOf Angle.withOffset Sample.sampled Sample.deadSample Sample.straySample
+unfolding Fate.fate Fate.beside Angle.twelfth Angle.withOffset Sample.sampled Sample.deadSample Sample.straySample
     Reference.toward Reference.target0 Reference.targetOf Answer.answer Causes.causes Counts.watched Moves.moveOf
-    Rules.settingRows Calls.load Calls.cycle Ticks.tick Calls.cycled Ticks.ticked
+    Settings.meant Rules.settingRows Calls.load Calls.cycle Ticks.tick Calls.cycled Ticks.ticked
 computes = tt

@@ -3,46 +3,49 @@ use mathlib.Core.Path.{_≡_, refl, ap, sym, subst}
 use mathlib.Core.Bool.{Bool, true, false, not, _&&_, _||_}
 use mathlib.Core.List.{List}
 use Prim.Native.Nat.{ℕ, _≤_, zero-le}
-use lib.Dec.{T, eqb, not-T}
+use native.Mathlib.Omega.{arith}
+use lib.Dec.{T, eqb, ltb, ltb→lt, not-T}
+use lib.ListN.{length, getD}
 use mir.Facts.{and-yes, ltb-no}
 use Rattle.theorems_history.specs.Onlooker.{Memory, Asked, neither, heard, remember, noted, note}
+use Rattle.theorems_history.specs.History.{Seen}
 use Rattle.theorems_history.specs.Laws.{Step, Lawful}
 use Rattle.numbers.proofs.Tests.{decide, or-left, fails-left, fails-right, contrary, joins}
 use Rattle.theorems_history.proofs.Steps
 use Rattle.theorems_history.proofs.Demand3.{demand3}
 use Rattle.states.specs.States.{numberOf, is, turning}
-use Rattle.settings.specs.Settings.{FaultEnable, RetryLimit}
+use Rattle.settings.specs.Settings.{settingCount, allSettings, meant, FaultEnable, RetryLimit}
 use Rattle.faults.specs.Word.{flag, any}
 use Rattle.faults.proofs.Bits.{old-stays}
 use Rattle.drive.specs.Flags.{alwaysLive}
 use Rattle.drive.specs.Command.{low}
 use Rattle.drive.specs.Answer.{liveWord, answer, reply as replied}
 use Rattle.verdicts.specs.Table.{verdict}
-use Rattle.drive.specs.Refusals.{loadRows, cycleRows, tickRows}
-use Rattle.drive.specs.Calls.{fresh, becomes, cycled, sample}
+use Rattle.drive.specs.Refusals.{highestPattern, loadRows, cycleRows, tickRows}
+use Rattle.drive.specs.Calls.{becomes, loaded, cycled, sample}
 use Rattle.drive.specs.Calls
 use Rattle.drive.specs.Ticks.{ticked}
 use Rattle.drive.specs.Ticks as TickCalls
 use Rattle.drive.specs.AnyCall.{Call, loads, cycles, ticks, reply}
 use Rattle.drive.specs.declared.Drive.{Drive}
+use Rattle.drive.specs.declared.answer.Answer.{Answer}
 use Rattle.drive.specs.declared.answer.Reply.{Reply}
 use Rattle.fields.specs.declared.Cycle.{Cycle}
 use Rattle.fields.specs.declared.Tick.{Tick}
-use Rattle.states.specs.declared.State.the-variants.{Stop}
 use Rattle.hall.specs.declared.Hall.{Hall}
 use Rattle.drive.specs.declared.offsets.Offsets.{Offsets}
 use Rattle.theorems_reached.specs.Machine.{machine}
 use Rattle.theorems_reached.specs.Reached.{Reached}
 use Rattle.verdicts.proofs.Passed.{passed}
 use Rattle.drive.proofs.Settles.{settles}
-use Rattle.theorems_reached.proofs.Loads.{accepted-state}
+use Rattle.theorems_reached.proofs.Loads.{accepted-state, accepted-count}
 use Rattle.theorems_reached.proofs.Keeps.{reached-power-up, cycled-reached, call-keeps}
 use Rattle.theorems_reached.proofs.Corollaries.{disarmed-in-fault, low-excludes-high}
 use Rattle.onlooker.specs.Words.{words, deadCauseOf}
 use Rattle.theorems_demands.specs.Supervised.{DriveDemand3}
 use Rattle.theorems_demands.proofs.Shown.{inside, fault-shown, gates-ask, dark, shows-turning}
 use Rattle.theorems_demands.proofs.Causes.{dead-shows}
-use Rattle.theorems_demands.proofs.Remembers.{Remembers, remembers-power-up, afterRefused, refused-remembers, load-remembers}
+use Rattle.theorems_demands.proofs.Remembers.{Agree, Remembers, remembers-power-up, afterRefused, refused-remembers, load-remembers}
 use Rattle.theorems_demands.proofs.Remembers.{cycle-remembers, tick-remembers}
 use Rattle.theorems_demands.proofs.Ticks
 use Rattle.theorems_demands.proofs.Tests.{never-both, idle-or-stop, not-both, begins, begins-nothing}
@@ -55,13 +58,25 @@ module _ (d : Drive) (memory : Memory) (call : Call) where
     pub remembers : Remembers (r .drive) (remember words memory (record { call = call; answer = r .answer }))
     pub obeys : Step (inside d) (note words memory (record { call = call; answer = r .answer })) (inside (r .drive))
 
-same-memory :
-    (m : Memory) {numbers : List ℕ} {shown : ℕ} {dead : ℕ}
-    → m .numbers ≡ numbers
-    → m .shown ≡ shown
-    → m .dead ≡ dead
-    → record { numbers = numbers; shown = shown; waited = m .waited; dead = dead } ≡ m
-same-memory m a b c = rw (← a, ← b, ← c)
+-- what he notes of a tick is told by the numbers that the drive has, too
+same-note :
+    (d : Drive) (t : Tick) (m : Memory) (answer : Answer)
+    → Agree (m .numbers) (d .settings) (d .sensors)
+    → m .shown ≡ numberOf (d .state)
+    → m .dead ≡ d .hall .«dead_streak»
+    → note words (Ticks.memory d t (m .waited) (d .state)) (record { call = ticks t; answer = answer })
+    ≡ note words m (record { call = ticks t; answer = answer })
+same-note d t m answer agree shown dead = go (eqb (answer .number) 0) refl
+  where
+    at : (i : ℕ) → T (ltb i settingCount) → getD (m .numbers) i 0 ≡ getD (d .settings) i 0
+    at i below = agree .setting i (ltb→lt i settingCount below)
+
+    go : (accepted : Bool) → eqb (answer .number) 0 ≡ accepted
+        → note words (Ticks.memory d t (m .waited) (d .state)) (record { call = ticks t; answer = answer })
+        ≡ note words m (record { call = ticks t; answer = answer })
+    go true told =
+        rw (told, shown, dead, at 0 tt, at 1 tt, at 2 tt, at 3 tt, at 4 tt, at 5 tt, at 20 tt, at 21 tt, at 23 tt)
+    go false told = rw (told, shown, dead, at 1 tt, at 23 tt)
 
 module _ (d : Drive) (r : Reached d) (memory : Memory) (knows : Remembers d memory) where
   -- the retries used are within the limit that he remembers
@@ -69,7 +84,7 @@ module _ (d : Drive) (r : Reached d) (memory : Memory) (knows : Remembers d memo
   within =
       decide (is 0 (d .state))
       (λ idle. rw (r .idle idle) zero-le)
-      (λ outside. rw (knows .loaded outside) (r .retries))
+      (λ outside. rw (knows .loaded outside .setting 23 (omega arith)) (r .retries))
 
   -- a call that is no tick and after which the drive stands where it stood, armed as it was: one that is refused, and a cycle. It may end
   -- the turning, by a flag
@@ -89,7 +104,7 @@ module _ (d : Drive) (r : Reached d) (memory : Memory) (knows : Remembers d memo
         (λ idle.
         let none : hall .«dead_streak» ≡ 0 = ap (λ (e : Drive). e .hall .«dead_streak») (r-now .idle idle) in
         absurd (rw (knows-now .dead, none) at cause))
-        (λ outside. dead-shows stood r-now (rw (knows-now .loaded outside, knows-now .dead) at cause))
+        (λ outside. dead-shows stood r-now (rw (knows-now .loaded outside .setting 1 (omega arith), knows-now .dead) at cause))
 
     stands :
         (number at : ℕ) (now : Memory)
@@ -147,23 +162,30 @@ module _ (d : Drive) (r : Reached d) (memory : Memory) (knows : Remembers d memo
   load-done :
       (numbers : List ℕ)
       → T (is 0 (d .state) || is 1 (d .state))
-      → Done d memory (loads numbers) (replied 0 0 (fresh Stop numbers))
+      → (eqb (length numbers) settingCount || eqb (length numbers) allSettings) ≡ true
+      → Done d memory (loads numbers) (replied 0 0 (loaded (meant numbers)))
   unfolding answer
-  load-done numbers admitted =
+  load-done numbers admitted either =
+      let next : Drive = loaded (meant numbers) in
       record {
-        remembers = load-remembers d memory knows numbers;
+        remembers = load-remembers d memory knows numbers either;
         obeys =
-            Steps.loads (inside d) _ (inside (fresh Stop numbers)) (gates-ask 0 0 (fresh Stop numbers)) zero-le
-            (fault-shown 0 0 (fresh Stop numbers)) (λ cause. cause) (λ was keeps. absurd keeps) (dark 0 0 (fresh Stop numbers))
+            Steps.loads (inside d) _ (inside next) (gates-ask 0 0 next) zero-le
+            (fault-shown 0 0 next) (λ cause. cause) (λ was keeps. absurd keeps) (dark 0 0 next)
             tt tt
             (rw (knows .shown) (fails-left (is 5 (d .state)) true (idle-or-stop (numberOf (d .state)) admitted)))
             tt tt refl;
       }
 
-  cycle-done : (c : Cycle) → Reached (cycled d c) → c .pattern ≤ 7 → Done d memory (cycles c) (replied 0 0 (cycled d c))
+  cycle-done :
+      (c : Cycle)
+      → Reached (cycled d c)
+      → T (not (is 0 (d .state)))
+      → c .pattern ≤ highestPattern (d .sensors)
+      → Done d memory (cycles c) (replied 0 0 (cycled d c))
   unfolding answer cycled
-  cycle-done c r-now small =
-      let now = cycle-remembers d memory knows c small in
+  cycle-done c r-now outside small =
+      let now = cycle-remembers d memory knows c outside small in
       record {
         remembers = now;
         obeys =
@@ -173,19 +195,13 @@ module _ (d : Drive) (r : Reached d) (memory : Memory) (knows : Remembers d memo
       }
 
   module _ (t : Tick) (outside : T (not (is 0 (d .state)))) where
-    -- what he remembers, in the drive's words
-    recalled : Ticks.memory d t (memory .waited) (d .state) ≡ memory
-    recalled = same-memory memory (knows .loaded outside) (knows .shown) (knows .dead)
-
     tick-done : Done d memory (ticks t) (replied 0 0 (ticked d t))
     tick-done =
         record {
           remembers = tick-remembers d memory knows t outside;
           obeys =
-              subst
-              (λ (m : Memory).
-              Step (inside d) (note words m (record { call = ticks t; answer = answer 0 0 (ticked d t) })) (inside (ticked d t)))
-              recalled
+              subst (λ (seen : Seen). Step (inside d) seen (inside (ticked d t)))
+              (same-note d t memory (answer 0 0 (ticked d t)) (knows .loaded outside) (knows .shown) (knows .dead))
               (Ticks.tick-obeys d t (memory .waited) (r .retries) (d .state)
               outside
               (not-both (is 5 (d .state)) (d .armed) (λ fault. rw (disarmed-in-fault d r fault) tt))
@@ -197,14 +213,15 @@ module _ (d : Drive) (r : Reached d) (memory : Memory) (knows : Remembers d memo
   done : (call : Call) → Done d memory call (reply d call)
   unfolding Calls.load Calls.cycle TickCalls.tick
   done (loads numbers) =
-      settles (Done d memory (loads numbers)) (verdict (loadRows d numbers)) (fresh Stop numbers) d
-      (λ none. load-done numbers (accepted-state d numbers none))
+      settles (Done d memory (loads numbers)) (verdict (loadRows d numbers)) (loaded (meant numbers)) d
+      (λ none. load-done numbers (accepted-state d numbers none) (accepted-count d numbers none))
       (refused (loads numbers) _ _)
   done (cycles c) =
       settles (Done d memory (cycles c)) (verdict (cycleRows d c)) (cycled d c) d
       (λ none.
       let p = passed (cycleRows d c) tt none in
-      cycle-done c (cycled-reached d c r (p .0) (ltb-no (p .1 .1 .0)) (ltb-no (p .1 .1 .1 .0))) (ltb-no (p .1 .0)))
+      cycle-done c (cycled-reached d c r (p .0) (ltb-no (p .1 .0)) (ltb-no (p .1 .1 .0)) (ltb-no (p .1 .1 .1 .0))) (p .0)
+      (ltb-no (p .1 .0)))
       (refused (cycles c) _ _)
   done (ticks t) =
       settles (Done d memory (ticks t)) (verdict (tickRows d t)) (ticked d t) d

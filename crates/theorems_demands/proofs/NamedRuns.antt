@@ -24,7 +24,7 @@ use Rattle.theorems_reached.specs.Machine.{machine}
 use Rattle.theorems_demands.proofs.Computes.{computes}
 use Rattle.theorems_demands.specs.NamedCalls.{settingsWith, high, clear}
 use Rattle.theorems_demands.specs.NamedRuns.{noted, turned, tripped, waited, triedAgain, foremansPage, held}
-use Rattle.onlooker.specs.Words.{words}
+use Rattle.onlooker.specs.Words.{words, asLoaded}
 
 -- A raised command turns the pump.
 pub turns-by-command : turning (noted turned) ≡ true
@@ -43,7 +43,7 @@ faulted n =
     atRest false 0
 
 abbrev recalled : ℕ → Memory
-recalled n = record { numbers = settingsWith 1 0; shown = 5; waited = n; dead = 0 }
+recalled n = record { numbers = asLoaded (settingsWith 1 0); shown = 5; waited = n; dead = 0 }
 
 -- his note of each tick of the wait: a live fault stands, and nothing happens
 abbrev waiting : Seen

@@ -1,15 +1,23 @@
 -- What the onlooker remembers of the log is so of the drive: each call leaves it so.
 use mathlib.Core.Path.{_≡_, refl, sym}
-use mathlib.Core.Bool.{Bool, true, false, not}
+use mathlib.Core.Bool.{Bool, true, false, not, _&&_, _||_, cond}
 use mathlib.Core.List.{List}
-use Prim.Native.Nat.{ℕ, _≤_, zero-le}
+use Prim.Native.Nat.{ℕ, _≤_, _<_, zero-le}
 use native.Mathlib.Omega.{arith}
 use lib.Dec.{T, eqb}
 use lib.Ieee.Bits.{is-true}
+use lib.ListN.{length, getD}
 use Rattle.theorems_history.specs.Onlooker.{Memory, nothingYet, remember}
 use Rattle.states.specs.States.{numberOf, is}
 use Rattle.drive.specs.Answer.{answer}
-use Rattle.drive.specs.Calls.{powerUp, fresh, cycled}
+use Rattle.settings.specs.Settings.{settingCount, allSettings, meant}
+use Rattle.settings.proofs.Meant.{length-meant}
+use Rattle.numbers.proofs.Fill.{first-at}
+use Rattle.hall.specs.declared.layout.Sensors.{Sensors}
+use Rattle.hall.specs.declared.layout.Sensors.the-variants.{Three, Two}
+use Rattle.drive.specs.Refusals.{highestPattern}
+use Rattle.drive.specs.Calls as Calls
+use Rattle.drive.specs.Calls.{powerUp, loaded, cycled}
 use Rattle.drive.specs.Ticks.{ticked, arrive, moved, watch, raised, armedBy, nth, chosen}
 use Rattle.drive.specs.AnyCall.{Call, loads, cycles, ticks}
 use Rattle.drive.specs.declared.Drive.{Drive}
@@ -18,15 +26,19 @@ use Rattle.fields.specs.declared.Tick.{Tick}
 use Rattle.moves.specs.declared.Move.{Move}
 use Rattle.moves.specs.declared.Move.the-variants.{Stay, Enter, Measure, Clear, Retry}
 use Rattle.states.specs.declared.State.{State}
-use Rattle.states.specs.declared.State.the-variants.{Stop}
 use Rattle.drive.specs.declared.offsets.Offsets.{Offsets}
 use Rattle.motor.specs.declared.Run.{Run}
-use Rattle.theorems_reached.proofs.Hall.{dead-by-pattern}
-use Rattle.onlooker.specs.Words.{words}
+use Rattle.theorems_reached.proofs.Hall.{deadPattern, dead-by-pattern}
+use Rattle.onlooker.specs.Words.{words, isDead}
+
+-- the numbers of a load are the drive's settings, and choose its sensors
+pub record Agree (numbers settings : List ℕ) (sensors : Sensors) : Type 0 where
+  pub setting : (i : ℕ) → i < settingCount → getD numbers i 0 ≡ getD settings i 0
+  pub chooses : Calls.chosen numbers ≡ sensors
 
 pub record Remembers (d : Drive) (memory : Memory) : Type 0 where
   -- in IDLE nothing is loaded, and nothing is asked of what is
-  pub loaded : T (not (is 0 (d .state))) → memory .numbers ≡ d .settings
+  pub loaded : T (not (is 0 (d .state))) → Agree (memory .numbers) (d .settings) (d .sensors)
   pub shown : memory .shown ≡ numberOf (d .state)
   -- the drive stops counting at 65535; he does not
   pub waited : T (is 5 (d .state)) → d .ticks ≤ memory .waited
@@ -34,6 +46,14 @@ pub record Remembers (d : Drive) (memory : Memory) : Type 0 where
 
 pub remembers-power-up : Remembers powerUp nothingYet
 remembers-power-up = record { loaded = λ t. absurd t; shown = refl; waited = λ t. absurd t; dead = refl }
+
+-- he calls dead what the layout does that the numbers choose
+dead-alike : (numbers : List ℕ) (p : ℕ) → isDead numbers p ≡ deadPattern (Calls.chosen numbers) p
+dead-alike numbers p = go (eqb (getD numbers 24 0) 2)
+  where
+    go : (two : Bool) → (not two && (eqb p 0 || eqb p 7)) ≡ deadPattern (cond two Two Three) p
+    go true = refl
+    go false = refl
 
 -- his memory after a call that was refused with this number, and after one that was accepted
 abbrev pub afterRefused : Memory → Call → ℕ → ℕ → Drive → Memory
@@ -57,18 +77,39 @@ module _ (d : Drive) (memory : Memory) (knows : Remembers d memory) where
         dead = rw refused (knows .dead);
       }
 
-  pub load-remembers : (numbers : List ℕ) → Remembers (fresh Stop numbers) (afterAccepted memory (loads numbers) (fresh Stop numbers))
-  unfolding answer
-  load-remembers numbers = record { loaded = λ t. refl; shown = refl; waited = λ t. absurd t; dead = refl }
+  pub load-remembers :
+      (numbers : List ℕ)
+      → (eqb (length numbers) settingCount || eqb (length numbers) allSettings) ≡ true
+      → Remembers (loaded (meant numbers)) (afterAccepted memory (loads numbers) (loaded (meant numbers)))
+  unfolding answer meant
+  load-remembers numbers either =
+      record {
+        loaded = λ t.
+            record {
+              setting = λ i below.
+                  sym (first-at settingCount (meant numbers) i below (omega (arith, below, length-meant numbers either)));
+              chooses = refl;
+            };
+        shown = refl;
+        waited = λ t. absurd t;
+        dead = refl;
+      }
 
-  pub cycle-remembers : (c : Cycle) → c .pattern ≤ 7 → Remembers (cycled d c) (afterAccepted memory (cycles c) (cycled d c))
+  -- which samples are dead is told by the loaded numbers
+  pub cycle-remembers :
+      (c : Cycle)
+      → T (not (is 0 (d .state)))
+      → c .pattern ≤ highestPattern (d .sensors)
+      → Remembers (cycled d c) (afterAccepted memory (cycles c) (cycled d c))
   unfolding answer cycled
-  cycle-remembers c small =
+  cycle-remembers c outside small =
       record {
         loaded = knows .loaded;
         shown = refl;
         waited = λ fault. rw (in-fault fault) (knows .waited fault);
-        dead = rw (knows .dead) (sym (dead-by-pattern (d .hall) (c .pattern) _ small));
+        dead =
+            rw (knows .dead, dead-alike (memory .numbers) (c .pattern), knows .loaded outside .chooses)
+            (sym (dead-by-pattern (d .sensors) (d .hall) (c .pattern) _ small));
       }
 
   module _ (t : Tick) (outside : T (not (is 0 (d .state)))) where

@@ -14,7 +14,8 @@ use Rattle.states.specs.declared.State.{State}
 use Rattle.states.specs.declared.State.the-variants.{Idle, Stop, BtsCharge, MotorRun}
 use Rattle.fields.specs.declared.Tick.{Tick}
 use Rattle.drive.specs.Answer.{gateOf, reply as replied}
-use Rattle.drive.specs.Calls.{fresh}
+use Rattle.settings.specs.Settings.{meant}
+use Rattle.drive.specs.Calls.{loaded as freshly}
 use Rattle.drive.specs.Ticks.{arrive, retriedTrip}
 use Rattle.drive.specs.AnyCall.{Call, loads, cycles, ticks, reply}
 use Rattle.drive.specs.declared.Drive.{Drive}
@@ -173,7 +174,7 @@ leavesInACycle d (cycles fields) = cond (is 5 (d .state)) (replied 0 0 (put Stop
 leavesInACycle d (ticks fields) = reply d (ticks fields)
 
 abbrev leavesByALoad : Replies
-leavesByALoad d (loads numbers) = cond (is 5 (d .state)) (replied 0 0 (fresh Stop numbers)) (reply d (loads numbers))
+leavesByALoad d (loads numbers) = cond (is 5 (d .state)) (replied 0 0 (freshly (meant numbers))) (reply d (loads numbers))
 leavesByALoad d (cycles fields) = reply d (cycles fields)
 leavesByALoad d (ticks fields) = reply d (ticks fields)
 

@@ -18,6 +18,7 @@ use Rattle.drive.specs.Answer.{gate, liveWord, reported}
 use Rattle.drive.specs.declared.Drive.{Drive}
 use Rattle.fields.specs.declared.Tick.{Tick}
 use Rattle.states.specs.declared.State.{State}
+use Rattle.hall.specs.declared.layout.Sensors.the-variants.{Two}
 use Rattle.theorems_reached.specs.Reached.{RunWithin, AtMost, butHall, Reached}
 use Rattle.numbers.proofs.Tests.{by-test, decide}
 use Rattle.theorems_reached.proofs.Loads.{at-most, related-there}
@@ -135,6 +136,12 @@ module _ (d : Drive) (r : Reached d) where
       ltb-yes (related-there (r .settings outside) 21 (omega arith))
       in
       one-level (mode1 (d .settings)) (t .command) (t .control) below
+
+  -- ---- two sensors
+
+  -- With two sensors cause 15 stands at no tick: a trip by strays can be cleared at once.
+  pub no-dead-cause : d .sensors ≡ Two → eqb (d .hall .«dead_streak») 2 ≡ false
+  no-dead-cause two = rw (r .hall .never-dead two)
 
   -- ---- flags and gates
 
