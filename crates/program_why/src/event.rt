@@ -3,23 +3,28 @@ use crate::words::NO_RECORD;
 use crate::words::NOTHING;
 use onlooker::past::Seen;
 use onlooker::witness::Heard;
+use records::CYCLE_SIZE;
 use records::Found;
+use records::TICK_SIZE;
+use records::load_size;
 use settings::CONTROL_MODE;
+use settings::HALL_SENSORS;
 
 // The three calls.
-pub(crate) const LOAD: u8 = 1;
+const LOAD: u8 = 1;
 
 pub(crate) const CYCLE: u8 = 2;
 
 const TICK: u8 = 3;
 
-// The record's number; which call it asked for, and number and place of the answer; the states that the answers showed before it and
-// after it, and whether the one before ran; the note; mode 1 and the loaded limit; the records of the low and of the retry that permit
+// The record's number; which call it asked for, the bytes that it has, and number and place of the answer; the states that the answers showed before it and
+// after it, and whether the one before ran; the note; mode 1, two sensors and the loaded limit; the records of the low and of the retry that permit
 // a start, whether one was permitted, the retries counted; the last low and the last trip before it; the record that lit the live word,
 // and whether dead samples lit bit 15; live word and gates, before and after.
 pub(crate) struct Event {
     pub(crate) nth: u64,
     pub(crate) kind: u8,
+    pub(crate) size: usize,
     pub(crate) number: u8,
     pub(crate) place: u8,
     pub(crate) from: u8,
@@ -27,6 +32,7 @@ pub(crate) struct Event {
     pub(crate) ran: bool,
     pub(crate) seen: Seen,
     pub(crate) timed: bool,
+    pub(crate) two_sensors: bool,
     pub(crate) limit: u64,
     pub(crate) low: u64,
     pub(crate) retry: u64,
@@ -49,12 +55,22 @@ fn wide(number: u16) -> u64 {
 // Which call a record asks for; NO_RECORD for what is none, and NOTHING where more may come or there is no more.
 fn kind_of(found: Found, closed: bool) -> u8 {
     match found {
-        Found::Load => LOAD,
+        Found::Load(_) => LOAD,
         Found::Cycle(_) => CYCLE,
         Found::Tick(_) => TICK,
         Found::Short => if closed { NO_RECORD } else { NOTHING },
         Found::Unknown => NO_RECORD,
         Found::End => NOTHING,
+    }
+}
+
+// How many bytes it has; what is none has none.
+fn size_of(found: Found) -> usize {
+    match found {
+        Found::Load(count) => load_size(count),
+        Found::Cycle(_) => CYCLE_SIZE,
+        Found::Tick(_) => TICK_SIZE,
+        _ => 0,
     }
 }
 
@@ -67,6 +83,7 @@ pub(crate) fn happened(before: Heard, after: Heard, found: Found, closed: bool) 
     Event {
         nth: after.onlooker.past.heard,
         kind: kind_of(found, closed),
+        size: size_of(found),
         number: after.answer.number,
         place: after.answer.place,
         from: before.onlooker.memory.shown,
@@ -74,6 +91,7 @@ pub(crate) fn happened(before: Heard, after: Heard, found: Found, closed: bool) 
         ran: before.onlooker.seen.running,
         seen,
         timed: numbers[CONTROL_MODE] == 1,
+        two_sensors: numbers[HALL_SENSORS] == 2,
         limit: wide(seen.limit),
         low: past.low,
         retry: past.retry,

@@ -9,6 +9,7 @@ use crate::words::LEFT;
 use crate::words::LEFT_BY_CLEAR;
 use crate::words::LEFT_BY_RETRY;
 use crate::words::LOADED;
+use crate::words::LOADED_FOR_TWO_SENSORS;
 use crate::words::LOADED_WITH_RETRIES;
 use crate::words::LOADED_WITH_RETRY;
 use crate::words::NO_NUMBER;
@@ -26,9 +27,9 @@ use crate::words::field_word;
 use crate::words::setting_word;
 ghost use Prim.Native.Nat.{_≤_};
 
-fn reason(kind: u8, number: u8, place: u8) -> u8 {
+fn reason(kind: u8, number: u8, place: u8, two_sensors: bool) -> u8 {
     match number {
-        1 => field_word(kind, place),
+        1 => field_word(kind, place, two_sensors),
         2 => setting_word(place),
         3 => NO_SETTINGS,
         4 => WRONG_STATE,
@@ -41,7 +42,7 @@ pub(crate) fn refused(e: Event) -> Sentence {
     if e.number == 0 {
         return plain(NOTHING);
     }
-    let word = reason(e.kind, e.number, e.place);
+    let word = reason(e.kind, e.number, e.place, e.two_sensors);
     worded(e.kind, e.number as u64, e.place as u64, word)
 }
 
@@ -58,9 +59,17 @@ pub(crate) fn loaded(e: Event) -> Sentence {
     numbered(LOADED_WITH_RETRIES, e.limit, 0)
 }
 
+// Three sensors are the rule, and not said.
+pub(crate) fn loaded_sensors(e: Event) -> Sentence {
+    if e.seen.loaded & e.two_sensors {
+        return plain(LOADED_FOR_TWO_SENSORS);
+    }
+    plain(NOTHING)
+}
+
 // The row of an exit, or the one behind it, which says that a live cause stood.
 fn exit_row(e: Event, row: u8) -> u8
-    requires { ⌜ row ≤ 12 ⌝ }
+    requires { ⌜ row ≤ 13 ⌝ }
 {
     if e.seen.cause_stood | e.seen.live_shown {
         row + 1

@@ -19,7 +19,7 @@ pub(crate) fn silence() -> Heard {
 // The call that a record asks for; without one nothing more is heard.
 pub(crate) fn hear(before: Heard, found: Found, input: &[u8], at: usize) -> Heard {
     match found {
-        Found::Load => before.load(settings_at(input, at)),
+        Found::Load(count) => before.load(settings_at(input, at, count)),
         Found::Cycle(fields) => before.cycle(fields),
         Found::Tick(fields) => before.tick(fields),
         _ => before,

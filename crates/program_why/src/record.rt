@@ -1,9 +1,8 @@
 // One turn of the program: what stands at the front of the input, and what is said of it.
-use crate::event::CYCLE;
 use crate::event::Event;
-use crate::event::LOAD;
 use crate::happened::left;
 use crate::happened::loaded;
+use crate::happened::loaded_sensors;
 use crate::happened::refused;
 use crate::happened::start;
 use crate::happened::stop;
@@ -20,10 +19,7 @@ use crate::shown::live;
 use crate::shown::trip;
 use crate::words::NO_RECORD;
 use crate::words::NOTHING;
-use records::CYCLE_SIZE;
 use records::Found;
-use records::LOAD_SIZE;
-use records::TICK_SIZE;
 use records::read;
 
 // What stands behind the bytes that were taken.
@@ -37,11 +33,12 @@ fn sentence(e: Event, place: u8) -> Sentence {
     match place {
         0 => refused(e),
         1 => loaded(e),
-        2 => left(e),
-        3 => start(e),
-        4 => stop(e),
-        5 => trip(e),
-        6 => live(e),
+        2 => loaded_sensors(e),
+        3 => left(e),
+        4 => start(e),
+        5 => stop(e),
+        6 => trip(e),
+        7 => live(e),
         _ => gates(e),
     }
 }
@@ -49,19 +46,11 @@ fn sentence(e: Event, place: u8) -> Sentence {
 fn put_sentences(output: &mut [u8], at: usize, e: Event) -> usize {
     let mut next = at;
     let mut place: u8 = 0;
-    while place < 8 {
+    while place < 9 {
         next = put_sentence(output, next, e.nth, sentence(e, place));
         place += 1;
     }
     next
-}
-
-fn size_of(kind: u8) -> usize {
-    match kind {
-        LOAD => LOAD_SIZE,
-        CYCLE => CYCLE_SIZE,
-        _ => TICK_SIZE,
-    }
 }
 
 fn one_more(count: u64) -> u64 {
@@ -83,7 +72,7 @@ fn take_none(places: Places, row: u8, nth: u64, input: &mut [u8], output: &mut [
 fn take(places: Places, e: Event, output: &mut [u8]) -> Places {
     let next = put_sentences(output, places.next, e);
     let places = Places {
-        taken: behind(places.taken, size_of(e.kind)),
+        taken: behind(places.taken, e.size),
         next,
         ..places
     };

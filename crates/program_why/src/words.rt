@@ -1,4 +1,4 @@
-// Every word that the program says, in those of document 01. A row's number is its line, from 0 on.
+// Every word that the program says, in those of the papers. A row's number is its line, from 0 on.
 use crate::event::CYCLE;
 use crate::writer::put_row;
 ghost use Prim.Native.Nat.{_+_, _≤_};
@@ -6,7 +6,7 @@ ghost use Prim.Native.Nat.{_+_, _≤_};
 // The sentences. `@` stands for the record's number, `#` and `$` for the numbers that a sentence tells; behind a colon at the end comes
 // a word, or the bits of a live word. The rows of the refusals have the calls' numbers, and an exit's row has behind it the one that says
 // that a live cause stood.
-const SENTENCES: [u8; 1226] = *b"
+const SENTENCES: [u8; 1272] = *b"
 record @  load refused: number #, place $:
 record @  cycle refused: number #, place $:
 record @  tick refused: number #, place $:
@@ -14,6 +14,7 @@ record @  refused: number 6, place 0: unknown or short record; the run ends
 record @  loaded: mode 0, no timed retries
 record @  loaded: mode 1, # retry allowed
 record @  loaded: mode 1, # retries allowed
+record @  loaded: motor with two Hall sensors
 record @  FAULT left: clear
 record @  FAULT left: clear; a live cause stood
 record @  FAULT left: timed retry # of $; no live cause stood
@@ -45,37 +46,39 @@ pub(crate) const LOADED_WITH_RETRY: u8 = 6;
 
 pub(crate) const LOADED_WITH_RETRIES: u8 = 7;
 
-pub(crate) const LEFT_BY_CLEAR: u8 = 8;
+pub(crate) const LOADED_FOR_TWO_SENSORS: u8 = 8;
 
-pub(crate) const LEFT_BY_RETRY: u8 = 10;
+pub(crate) const LEFT_BY_CLEAR: u8 = 9;
 
-pub(crate) const LEFT: u8 = 12;
+pub(crate) const LEFT_BY_RETRY: u8 = 11;
 
-pub(crate) const BEGAN: u8 = 14;
+pub(crate) const LEFT: u8 = 13;
 
-pub(crate) const STARTED: u8 = 15;
+pub(crate) const BEGAN: u8 = 15;
 
-pub(crate) const STARTED_BY_LOW: u8 = 16;
+pub(crate) const STARTED: u8 = 16;
 
-pub(crate) const STARTED_BY_RETRY: u8 = 17;
+pub(crate) const STARTED_BY_LOW: u8 = 17;
 
-pub(crate) const STARTED_BY_RETRY_NOT_LOW: u8 = 18;
+pub(crate) const STARTED_BY_RETRY: u8 = 18;
 
-pub(crate) const STOPPED_BY_LOW: u8 = 19;
+pub(crate) const STARTED_BY_RETRY_NOT_LOW: u8 = 19;
 
-pub(crate) const STOPPED_BY_LOAD: u8 = 20;
+pub(crate) const STOPPED_BY_LOW: u8 = 20;
 
-pub(crate) const STOPPED: u8 = 21;
+pub(crate) const STOPPED_BY_LOAD: u8 = 21;
 
-pub(crate) const TRIPPED: u8 = 22;
+pub(crate) const STOPPED: u8 = 22;
 
-pub(crate) const TRIPPED_BY_EARLIER: u8 = 23;
+pub(crate) const TRIPPED: u8 = 23;
 
-pub(crate) const TRIPPED_IN_THE_DARK: u8 = 24;
+pub(crate) const TRIPPED_BY_EARLIER: u8 = 24;
 
-pub(crate) const LIVE: u8 = 25;
+pub(crate) const TRIPPED_IN_THE_DARK: u8 = 25;
 
-pub(crate) const GATES: u8 = 26;
+pub(crate) const LIVE: u8 = 26;
+
+pub(crate) const GATES: u8 = 27;
 
 pub(crate) fn put_line(
     output: &mut [u8],
@@ -88,10 +91,10 @@ pub(crate) fn put_line(
     put_row(output, at, &SENTENCES, row, nth, first, second)
 }
 
-// What may stand behind a sentence, each with its blank in front: what a field of a tick and of a cycle may be, by its place from 1; the
-// bits of the live word, bit 15 once more; what the gates do; what a setting may be, by its place, and place 0 is all of them; the
-// refusals that have no place; what document 01 has no words for; and what stands between two bits.
-const WORDS: [u8; 1829] = *b"
+// What may stand behind a sentence, each with its blank in front: what a field of a tick and of a cycle may be, by its place from 1, and
+// the pattern of two sensors; the bits of the live word, bit 15 once more; what the gates do; what a setting may be, by its place, and
+// place 0 is all of them; the refusals that have no place; what the papers have no words for; and what stands between two bits.
+const WORDS: [u8; 1891] = *b"
  no field
  gate_kill is 0..1
  clear is 0..1
@@ -108,6 +111,7 @@ const WORDS: [u8; 1829] = *b"
  pattern is 0..7
  first is 0..4095
  second is 0..4095
+ pattern is 0..3 with two Hall sensors
  gate kill is 1 (bit 0)
  VdcRaw above CriticalOvLevel (bit 1)
  VdcFilt above VdcOvLevel (bit 2)
@@ -129,7 +133,7 @@ const WORDS: [u8; 1829] = *b"
  charge
  drive
  all low sides on
- settings are 24 numbers
+ settings are 24 or 25 numbers
  ControlMode is 0..1
  FaultEnable is any 16-bit number
  VdcOvLevel is 0..4095
@@ -154,6 +158,7 @@ const WORDS: [u8; 1829] = *b"
  CmdStop is 0..4095, below CmdStart
  CmdGain is any 16-bit number
  RetryLimit is 0..100
+ sensors is 2..3
  in IDLE there are no settings: load first
  outside IDLE and STOP: stop or clear first
  no number of document 01
@@ -167,27 +172,29 @@ const TICK_FIELDS: u8 = 1;
 
 const CYCLE_FIELDS: u8 = 13;
 
-const BITS: u8 = 17;
+const FEWER_PATTERNS: u8 = 17;
 
-const STRAYS: u8 = 33;
+const BITS: u8 = 18;
 
-const GATE_WORDS: u8 = 34;
+const STRAYS: u8 = 34;
 
-const SETTINGS: u8 = 38;
+const GATE_WORDS: u8 = 35;
 
-pub(crate) const NO_SETTINGS: u8 = 63;
+const SETTINGS: u8 = 39;
 
-pub(crate) const WRONG_STATE: u8 = 64;
+pub(crate) const NO_SETTINGS: u8 = 65;
 
-pub(crate) const NO_NUMBER: u8 = 65;
+pub(crate) const WRONG_STATE: u8 = 66;
 
-const UNKNOWN: u8 = 66;
+pub(crate) const NO_NUMBER: u8 = 67;
 
-pub(crate) const COMMA: u8 = 67;
+const UNKNOWN: u8 = 68;
+
+pub(crate) const COMMA: u8 = 69;
 
 // A row of several that follow each other.
 fn row_of(from: u8, number: u8, count: u8) -> u8
-    requires { ⌜ from + count ≤ 66 ⌝ }
+    requires { ⌜ from + count ≤ 68 ⌝ }
 {
     if number < count {
         from + number
@@ -208,10 +215,13 @@ pub(crate) fn gate_word(gate: u8) -> u8 {
 }
 
 pub(crate) fn setting_word(place: u8) -> u8 {
-    row_of(SETTINGS, place, 25)
+    row_of(SETTINGS, place, 26)
 }
 
-pub(crate) fn field_word(kind: u8, place: u8) -> u8 {
+pub(crate) fn field_word(kind: u8, place: u8, two_sensors: bool) -> u8 {
+    if (kind == CYCLE) & (place == 1) & two_sensors {
+        return FEWER_PATTERNS;
+    }
     if kind == CYCLE {
         return row_of(CYCLE_FIELDS, place, 4);
     }

@@ -1,16 +1,33 @@
-// Runs one sample of each pattern, 0 to 7, against each kept pattern, none and 1 to 6, and prints a line for each pair:
-// pattern, kept pattern (. for none), fate, position after and angle after. The Hall part starts at position 0 and at
-// angle 1, which no pattern gives, and the offset is 0.
+// Runs one sample of each pattern against each kept pattern, with three sensors (0 to 7 against none and 1 to 6) and with two (0 to 3
+// against none and 0 to 3), and prints a line for each pair: sensors, pattern, kept pattern (. for none), fate, position after and angle
+// after. The Hall part starts at position 0 and at angle 1, which no pattern gives, and the offset is 0.
 use hall::Hall;
 use hall::fate::Fate;
 use hall::fate::Kept;
+use hall::layout::Sensors;
 use libc::STDOUT_FILENO;
 
-fn kept_of(number: u8) -> Kept {
-    match number {
+// The kept patterns in the order of the lines: none, and then the layout's.
+fn kept_of_three(place: u8) -> Kept {
+    match place {
         0 => Kept::Nothing,
-        _ => Kept::Pattern(number),
+        _ => Kept::Pattern(place),
     }
+}
+
+fn kept_of_two(place: u8) -> Kept {
+    match place {
+        0 => Kept::Nothing,
+        _ => Kept::Pattern(place - 1),
+    }
+}
+
+fn print_sensors(sensors: Sensors) {
+    match sensors {
+        Sensors::Three => io::write_all(STDOUT_FILENO, b"3 "),
+        Sensors::Two => io::write_all(STDOUT_FILENO, b"2 "),
+    }
+    ;
 }
 
 fn print_pattern(number: u8) {
@@ -48,8 +65,7 @@ fn print_angle(angle: i16) {
     io::write_all(STDOUT_FILENO, b"\n");
 }
 
-fn print_pair(pattern: u8, number: u8) {
-    let kept = kept_of(number);
+fn print_pair(sensors: Sensors, pattern: u8, kept: Kept) {
     let hall = Hall {
         kept,
         position: 0,
@@ -58,7 +74,8 @@ fn print_pair(pattern: u8, number: u8) {
         stray_streak: 0,
         still_count: 0,
     };
-    let sampled = hall.sampled(pattern, 0);
+    let sampled = hall.sampled(sensors, pattern, 0);
+    print_sensors(sensors);
     print_pattern(pattern);
     print_kept(kept);
     let fate = sampled.fate;
@@ -68,10 +85,23 @@ fn print_pair(pattern: u8, number: u8) {
     print_angle(next.angle);
 }
 
-fn main() {
+fn print_three() {
     let mut pair: u8 = 0;
     while pair < 56 {
-        print_pair(pair / 7, pair % 7);
+        print_pair(Sensors::Three, pair / 7, kept_of_three(pair % 7));
         pair += 1;
     }
+}
+
+fn print_two() {
+    let mut pair: u8 = 0;
+    while pair < 20 {
+        print_pair(Sensors::Two, pair / 5, kept_of_two(pair % 5));
+        pair += 1;
+    }
+}
+
+fn main() {
+    print_three();
+    print_two();
 }

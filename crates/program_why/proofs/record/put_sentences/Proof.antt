@@ -8,10 +8,10 @@ use Rattle.program_why.proofs.record.put_sentences.Statement.{statement
 use Rattle.program_why.proofs.record.put_sentences.Tie as tie
 
 abbrev Inv-loop : tie.InvT-loop
-Inv-loop output₀ at e next₀ place₀ output next place = (length output ≡ length output₀) × (place ≤ 8)
+Inv-loop output₀ at e next₀ place₀ output next place = (length output ≡ length output₀) × (place ≤ 9)
 
 abbrev μ-loop : tie.MeasureT-loop
-μ-loop output₀ at e next₀ place₀ output next place = 8 - place
+μ-loop output₀ at e next₀ place₀ output next place = 9 - place
 
 loop-again : tie.Need-loop-again Inv-loop μ-loop
 loop-again c =
