@@ -1,7 +1,8 @@
 """The form of a record: its kinds with their letters, fields, sizes, ranges and defaults, as document 01 and the requests of 02 that have
 landed lay them down.
 
-A new field is a line in the list of its kind, a new kind one more entry of KINDS; text form, help and expected outputs follow."""
+A new field is a line in the list of its kind, a new kind one more entry of KINDS and of ALL_KINDS; text form, help and expected outputs
+follow."""
 
 import struct
 from dataclasses import dataclass

@@ -29,7 +29,8 @@ DESCRIPTION = f"""The text has one record to a line; '#' begins a comment:
   }}
 
 {', '.join(kind.letter for kind in KINDS[:-1])} and {KINDS[-1].letter} stand for \
-{', '.join(kind.word for kind in KINDS[:-1])} and {KINDS[-1].word}, {LOAD_WITH_SENSORS.letter} for a load with sensors.
+{', '.join(kind.word for kind in KINDS[:-1])} and {KINDS[-1].word}, {LOAD_WITH_SENSORS.letter} for a load with sensors,
+which {LOAD.letter} with sensors becomes, too.
 Case, '_' and '-' in names do not matter.
 Numbers are decimal or 0x hexadecimal. A value that fits the bytes of its record is
 written even where the paper forbids it: refusing it is the supervisor's work.
@@ -112,10 +113,11 @@ def read_named(kind: Kind, words: List[Word]) -> Record:
 
 
 def read_plain(kind: Kind, words: List[Word], end: int) -> Record:
+    wide = kind.wider or kind
     for word in words:
         if "=" in word.text:
-            raise TextError(word.column, "plain numbers and NAME=VALUE cannot be mixed")
-    wide = kind.wider or kind
+            more = f"; {wide.fields[-1].name} can be the {len(wide.fields)}th number" if wide is not kind else ""
+            raise TextError(word.column, f"plain numbers and NAME=VALUE cannot be mixed{more}")
     if len(words) == len(wide.fields):
         kind = wide
     wanted = len(kind.fields)
@@ -123,7 +125,8 @@ def read_plain(kind: Kind, words: List[Word], end: int) -> Record:
         surplus = words[len(wide.fields) :]
         at = surplus[0].column if surplus else end
         more = f", or {len(wide.fields)} with {wide.fields[-1].name}" if wide is not kind else ""
-        raise TextError(at, f"{kind.word} takes {wanted} plain numbers in order{more}, found {len(words)}")
+        called = kind.word if kind in KINDS else kind.letter  # 'load' takes fewer
+        raise TextError(at, f"{called} takes {wanted} plain numbers in order{more}, found {len(words)}")
     return Record(kind, {place: read_field(kind, place, word) for place, word in enumerate(words)})
 
 

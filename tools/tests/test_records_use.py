@@ -46,7 +46,7 @@ class Errors(Case):
         ("cycle 1 2", 1, 10, "cycle takes 3 plain numbers in order, found 2"),
         ("load" + " 1" * 23, 1, 51, "load takes 24 plain numbers in order, or 25 with sensors, found 23"),
         ("load" + " 1" * 26, 1, 56, "load takes 24 plain numbers in order, or 25 with sensors, found 26"),
-        ("M" + " 1" * 24, 1, 50, "load takes 25 plain numbers in order, found 24"),
+        ("M" + " 1" * 24, 1, 50, "M takes 25 plain numbers in order, found 24"),
         ("load sensrs=2", 1, 6, "load has no 'sensrs'; nearest: sensors"),
         ("load sensors=2 sensors=3", 1, 16, "sensors is given twice"),
         ("load sensors=65536", 1, 14, "sensors 65536 does not fit two bytes: 0 to 65535"),

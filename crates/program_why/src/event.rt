@@ -17,10 +17,10 @@ pub(crate) const CYCLE: u8 = 2;
 
 const TICK: u8 = 3;
 
-// The record's number; which call it asked for, the bytes that it has, and number and place of the answer; the states that the answers showed before it and
-// after it, and whether the one before ran; the note; mode 1, two sensors and the loaded limit; the records of the low and of the retry that permit
-// a start, whether one was permitted, the retries counted; the last low and the last trip before it; the record that lit the live word,
-// and whether dead samples lit bit 15; live word and gates, before and after.
+// The record's number; which call it asked for, the bytes that it has, and number and place of the answer; the states that the answers
+// showed before it and after it, and whether the one before ran; the note; mode 1, two sensors before it and after it, and the loaded
+// limit; the records of the low and of the retry that permit a start, whether one was permitted, the retries counted; the last low and
+// the last trip before it; the record that lit the live word, and whether dead samples lit bit 15; live word and gates, before and after.
 pub(crate) struct Event {
     pub(crate) nth: u64,
     pub(crate) kind: u8,
@@ -32,6 +32,7 @@ pub(crate) struct Event {
     pub(crate) ran: bool,
     pub(crate) seen: Seen,
     pub(crate) timed: bool,
+    pub(crate) had_two_sensors: bool,
     pub(crate) two_sensors: bool,
     pub(crate) limit: u64,
     pub(crate) low: u64,
@@ -77,6 +78,7 @@ fn size_of(found: Found) -> usize {
 // What was heard before and what is heard now are the same where no call was made.
 pub(crate) fn happened(before: Heard, after: Heard, found: Found, closed: bool) -> Event {
     let past = before.onlooker.past;
+    let old = before.onlooker.memory.numbers;
     let memory = after.onlooker.memory;
     let numbers = memory.numbers;
     let seen = after.onlooker.seen;
@@ -91,6 +93,7 @@ pub(crate) fn happened(before: Heard, after: Heard, found: Found, closed: bool) 
         ran: before.onlooker.seen.running,
         seen,
         timed: numbers[CONTROL_MODE] == 1,
+        had_two_sensors: old[HALL_SENSORS] == 2,
         two_sensors: numbers[HALL_SENSORS] == 2,
         limit: wide(seen.limit),
         low: past.low,

@@ -9,6 +9,7 @@ use crate::words::LEFT;
 use crate::words::LEFT_BY_CLEAR;
 use crate::words::LEFT_BY_RETRY;
 use crate::words::LOADED;
+use crate::words::LOADED_FOR_THREE_AGAIN;
 use crate::words::LOADED_FOR_TWO_SENSORS;
 use crate::words::LOADED_WITH_RETRIES;
 use crate::words::LOADED_WITH_RETRY;
@@ -59,17 +60,23 @@ pub(crate) fn loaded(e: Event) -> Sentence {
     numbered(LOADED_WITH_RETRIES, e.limit, 0)
 }
 
-// Three sensors are the rule, and not said.
+// Three sensors are the rule, and said only where there were two before.
 pub(crate) fn loaded_sensors(e: Event) -> Sentence {
-    if e.seen.loaded & e.two_sensors {
+    if !e.seen.loaded {
+        return plain(NOTHING);
+    }
+    if e.two_sensors {
         return plain(LOADED_FOR_TWO_SENSORS);
+    }
+    if e.had_two_sensors {
+        return plain(LOADED_FOR_THREE_AGAIN);
     }
     plain(NOTHING)
 }
 
 // The row of an exit, or the one behind it, which says that a live cause stood.
 fn exit_row(e: Event, row: u8) -> u8
-    requires { ⌜ row ≤ 13 ⌝ }
+    requires { ⌜ row ≤ 14 ⌝ }
 {
     if e.seen.cause_stood | e.seen.live_shown {
         row + 1

@@ -6,7 +6,7 @@ ghost use Prim.Native.Nat.{_+_, _≤_};
 // The sentences. `@` stands for the record's number, `#` and `$` for the numbers that a sentence tells; behind a colon at the end comes
 // a word, or the bits of a live word. The rows of the refusals have the calls' numbers, and an exit's row has behind it the one that says
 // that a live cause stood.
-const SENTENCES: [u8; 1272] = *b"
+const SENTENCES: [u8; 1326] = *b"
 record @  load refused: number #, place $:
 record @  cycle refused: number #, place $:
 record @  tick refused: number #, place $:
@@ -15,6 +15,7 @@ record @  loaded: mode 0, no timed retries
 record @  loaded: mode 1, # retry allowed
 record @  loaded: mode 1, # retries allowed
 record @  loaded: motor with two Hall sensors
+record @  loaded: motor with three Hall sensors again
 record @  FAULT left: clear
 record @  FAULT left: clear; a live cause stood
 record @  FAULT left: timed retry # of $; no live cause stood
@@ -48,37 +49,39 @@ pub(crate) const LOADED_WITH_RETRIES: u8 = 7;
 
 pub(crate) const LOADED_FOR_TWO_SENSORS: u8 = 8;
 
-pub(crate) const LEFT_BY_CLEAR: u8 = 9;
+pub(crate) const LOADED_FOR_THREE_AGAIN: u8 = 9;
 
-pub(crate) const LEFT_BY_RETRY: u8 = 11;
+pub(crate) const LEFT_BY_CLEAR: u8 = 10;
 
-pub(crate) const LEFT: u8 = 13;
+pub(crate) const LEFT_BY_RETRY: u8 = 12;
 
-pub(crate) const BEGAN: u8 = 15;
+pub(crate) const LEFT: u8 = 14;
 
-pub(crate) const STARTED: u8 = 16;
+pub(crate) const BEGAN: u8 = 16;
 
-pub(crate) const STARTED_BY_LOW: u8 = 17;
+pub(crate) const STARTED: u8 = 17;
 
-pub(crate) const STARTED_BY_RETRY: u8 = 18;
+pub(crate) const STARTED_BY_LOW: u8 = 18;
 
-pub(crate) const STARTED_BY_RETRY_NOT_LOW: u8 = 19;
+pub(crate) const STARTED_BY_RETRY: u8 = 19;
 
-pub(crate) const STOPPED_BY_LOW: u8 = 20;
+pub(crate) const STARTED_BY_RETRY_NOT_LOW: u8 = 20;
 
-pub(crate) const STOPPED_BY_LOAD: u8 = 21;
+pub(crate) const STOPPED_BY_LOW: u8 = 21;
 
-pub(crate) const STOPPED: u8 = 22;
+pub(crate) const STOPPED_BY_LOAD: u8 = 22;
 
-pub(crate) const TRIPPED: u8 = 23;
+pub(crate) const STOPPED: u8 = 23;
 
-pub(crate) const TRIPPED_BY_EARLIER: u8 = 24;
+pub(crate) const TRIPPED: u8 = 24;
 
-pub(crate) const TRIPPED_IN_THE_DARK: u8 = 25;
+pub(crate) const TRIPPED_BY_EARLIER: u8 = 25;
 
-pub(crate) const LIVE: u8 = 26;
+pub(crate) const TRIPPED_IN_THE_DARK: u8 = 26;
 
-pub(crate) const GATES: u8 = 27;
+pub(crate) const LIVE: u8 = 27;
+
+pub(crate) const GATES: u8 = 28;
 
 pub(crate) fn put_line(
     output: &mut [u8],

@@ -108,9 +108,10 @@ def small_pump(story: Story) -> None:
     stray = story.cycle(0, "live: three stray Hall samples (bit 15)")
     story.tick(f"trip by record {stray}: three stray Hall samples (bit 15)")
     story.tick("FAULT left: clear", clear=1)
-    # as many sensors as a load of 24 numbers means: nothing more is said, and 4 is a pattern again
-    story.load("loaded: mode 1, 2 retries allowed", ControlMode=1, sensors=3)
+    # 24 numbers mean three sensors: said, since there were two, and 4 is a pattern again; after that three are not said any more
+    story.load("loaded: mode 1, 2 retries allowed", "loaded: motor with three Hall sensors again", ControlMode=1)
     story.cycle(4)
+    story.load("loaded: mode 0, no timed retries", sensors=3)
     story.cycle(8, "cycle refused: number 1, place 1: pattern is 0..7")
     story.load("load refused: number 2, place 25: sensors is 2..3", sensors=1)
 
