@@ -1,4 +1,4 @@
--- What a call that settles by its verdict replies and leaves: and so no cycle and no tick changes a setting.
+-- What a call that settles by its verdict replies and leaves: and so no cycle and no tick changes a setting or the sensors.
 use mathlib.Core.Path.{_≡_, refl}
 use mathlib.Core.Bool.{Bool, false}
 use Prim.Native.Nat.{ℕ}
@@ -48,25 +48,27 @@ refusal v next left =
     (λ none given. absurd (given refl))
     (λ refused given. refl)
 
--- "The drive state keeps its 24 settings as loaded": no cycle and no tick changes them
-settings-moved :
+-- "The drive state keeps its 24 settings as loaded", and beside them the sensors: no cycle and no tick changes them
+abbrev pub AsLoaded : Drive → Drive → Type 0
+AsLoaded after before = (after .settings ≡ before .settings) × (after .sensors ≡ before .sensors)
+
+moved-as-loaded :
     (d : Drive) (t : Tick) (w : Watched) (flags : ℕ) (armed : Bool) (nth : ℕ) (move : Move)
-    → moved d t w flags armed nth move .settings ≡ d .settings
-settings-moved d t w flags armed nth Stay = refl
-settings-moved d t w flags armed nth (Enter state) = refl
-settings-moved d t w flags armed nth Measure = refl
-settings-moved d t w flags armed nth Clear = refl
-settings-moved d t w flags armed nth Retry = refl
+    → AsLoaded (moved d t w flags armed nth move) d
+moved-as-loaded d t w flags armed nth Stay = (refl, refl)
+moved-as-loaded d t w flags armed nth (Enter state) = (refl, refl)
+moved-as-loaded d t w flags armed nth Measure = (refl, refl)
+moved-as-loaded d t w flags armed nth Clear = (refl, refl)
+moved-as-loaded d t w flags armed nth Retry = (refl, refl)
 
-settled-settings : (v : Verdict) (next d : Drive) → next .settings ≡ d .settings → settle v next d .drive .settings ≡ d .settings
-settled-settings v next d e = settled (λ (after : Drive). after .settings ≡ d .settings) v next d (λ none. e) refl
-
-pub cycle-keeps-settings : (d : Drive) (c : Cycle) → cycle d c .drive .settings ≡ d .settings
+pub cycle-keeps-settings : (d : Drive) (c : Cycle) → AsLoaded (cycle d c .drive) d
 unfolding cycle cycled
-cycle-keeps-settings d c = settled-settings (verdict (cycleRows d c)) (cycled d c) d refl
+cycle-keeps-settings d c =
+    settled (λ (after : Drive). AsLoaded after d) (verdict (cycleRows d c)) (cycled d c) d (λ none. (refl, refl)) (refl, refl)
 
-pub tick-keeps-settings : (d : Drive) (t : Tick) → tick d t .drive .settings ≡ d .settings
+pub tick-keeps-settings : (d : Drive) (t : Tick) → AsLoaded (tick d t .drive) d
 unfolding tick ticked
 tick-keeps-settings d t =
-    settled-settings (verdict (tickRows d t)) (ticked d t) d
-    (settings-moved d t (watch d t) (raised d t) (armedBy d t) (nth d) (chosen d t))
+    settled (λ (after : Drive). AsLoaded after d) (verdict (tickRows d t)) (ticked d t) d
+    (λ none. moved-as-loaded d t (watch d t) (raised d t) (armedBy d t) (nth d) (chosen d t))
+    (refl, refl)

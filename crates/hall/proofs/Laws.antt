@@ -8,18 +8,17 @@ use lib.Dec.{T, eqb, eqb→eq}
 use lib.IntN.{ℤ}
 use lib.ListN.{length}
 use lib.Ieee.Bits.{is-true, is-false}
-use mir.Facts.{and-yes, eqb-yes}
+use mir.Facts.{and-yes}
 use borrow.Author.Tests.{eq-eqb}
 use Rattle.hall.specs.Layout.{Layout, three, two, layout, among, next, previous, sectorOf}
+use Rattle.hall.specs.Degrees.{meets}
 use Rattle.hall.specs.Fate.{fate, beside}
-use Rattle.hall.specs.Angle.{boundaryWith}
-use Rattle.hall.specs.Sample.{sampled, after, number, plus, minus}
+use Rattle.hall.specs.Sample.{sampled, after}
 use Rattle.hall.specs.Turns.{Way, clockwise, counterclockwise, onward, reached, width, crossed, walked, counted, entered, FullTurn}
 use Rattle.hall.specs.declared.Hall.{Hall}
 use Rattle.hall.specs.declared.Sampled.{Sampled}
 use Rattle.hall.specs.declared.fate.Fate.{Fate}
 use Rattle.hall.specs.declared.fate.Fate.the-variants.{Forward, Back}
-use Rattle.hall.specs.declared.fate.Kept.{Kept}
 use Rattle.hall.specs.declared.fate.Kept.the-variants.{Pattern}
 use Rattle.hall.specs.declared.layout.Sensors.{Sensors}
 use Rattle.hall.specs.declared.layout.Sensors.the-variants.{Three, Two}
@@ -84,14 +83,7 @@ round s way p stands =
       six = eqb→eq _ 6 (all .1);
     }
 
--- "the sectors run from .. to .., with middles ..": each from the boundary behind it to its own, twice its width in twelfths, with its
--- middle half-way
-abbrev meets : Layout → ℕ → Bool
-meets l p =
-    let from : ℕ = sectorOf l (previous l p) .boundary in
-    eqb ((from + 2 * sectorOf l p .width) % 12) (sectorOf l p .boundary)
-    && eqb ((from + sectorOf l p .width) % 12) (sectorOf l p .middle)
-
+-- "the sectors run from .. to .., with middles ..": so they do in either layout
 pub sectors-meet : (s : Sensors) (p : ℕ) → T (among (layout s .order) p) → T (meets (layout s) p)
 sectors-meet Three = one-of (λ p. T (meets three p)) (three .order) (tt, (tt, (tt, (tt, (tt, (tt, tt))))))
 sectors-meet Two = one-of (λ p. T (meets two p)) (two .order) (tt, (tt, (tt, (tt, tt))))

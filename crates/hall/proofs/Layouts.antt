@@ -1,11 +1,13 @@
--- What holds of each pattern of a layout, computed; and that a layout has nothing to say of any other.
+-- What holds of each pattern of a layout, computed; that a layout has nothing to say of any other; and that the layout of two sensors is
+-- the one that 02 draws in degrees.
 use mathlib.Core.Path.{_≡_, refl, sym, subst}
-use mathlib.Core.Bool.{Bool, true, false, cond, not}
+use mathlib.Core.Bool.{Bool, true, false, cond}
 use mathlib.Core.List.{List, [], _∷_, _++_}
 use Prim.Native.Nat.{ℕ}
 use lib.Dec.{T, eqb}
 use borrow.Author.Tests.{eqb-true}
-use Rattle.hall.specs.Layout.{Layout, among, under, rotated, sectorOf, placeOf}
+use Rattle.hall.specs.Layout.{Layout, two, among, under, rotated, sectorOf, placeOf}
+use Rattle.hall.specs.Degrees.{smallPump, drawn}
 use Rattle.hall.specs.Fate.{fate, beside}
 use Rattle.hall.specs.declared.fate.Fate.the-variants.{Dead}
 use Rattle.hall.specs.declared.fate.Kept.{Kept}
@@ -26,6 +28,9 @@ module _ (P : ℕ → Type 0) where
       go : (test : Bool) → eqb p x ≡ test → (T (among rest p) → P p) → P p
       go true e later = subst P (sym (eqb-true p x e)) (holds .0)
       go false e later = later (subst (λ (b : Bool). T (cond b true (among rest p))) e stands)
+
+pub two-in-degrees : drawn smallPump ≡ two
+two-in-degrees = refl
 
 -- ---- a pattern outside a layout
 

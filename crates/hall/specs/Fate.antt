@@ -1,5 +1,6 @@
--- Document 01, "Cycle": "Each pattern from 0 to 7 falls in one group against the kept pattern". Document 02, M-101, reads it with the
--- layout's patterns in the place of 1..6; with two sensors every pattern is one of them, so "The dead-pattern test does not apply."
+-- Document 01, "Cycle": "Each pattern from 0 to 7 falls in one group against the kept pattern". By M-101 of document 02 we read it with the
+-- layout's patterns in the place of 1..6 (docs/DECISIONS.md, 12): with two sensors every pattern is one of them, so "The dead-pattern test
+-- does not apply."
 use Prim.Native.Nat.{ℕ}
 use mathlib.Core.Bool.{cond}
 use lib.Dec.{eqb}

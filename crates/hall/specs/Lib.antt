@@ -1,4 +1,5 @@
 pub mod Layout
+pub mod Degrees
 pub mod Fate
 pub mod Angle
 pub mod Sample

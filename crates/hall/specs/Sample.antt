@@ -73,7 +73,7 @@ deadSample hall =
     rests hall Dead (cond at2 Nothing (hall .kept)) dead 0 at2
 
 -- "Another of 1..6: stray streak up, dead streak zero. At 3, flag 15 is set, the pattern is forgotten and the stray streak returns to
--- zero."; 02: another of the layout's patterns
+-- zero."; with two sensors another of the layout's patterns
 unfoldable pub straySample : Hall → Sampled
 straySample hall =
     let stray : ℕ = up 3 (hall .«stray_streak») in

@@ -2,9 +2,11 @@
 -- proved in proofs/Laws.antt.
 use Prim.Native.Nat.{ℕ, zero, suc, _+_}
 use mathlib.Core.Path.{_≡_}
-use lib.IntN.{ℤ, pos, negsuc, negℤ}
+use mathlib.Core.List.{List, [], _∷_}
+use lib.IntN.{ℤ, pos, negsuc, negℤ, _+ℤ_}
 use lib.ListN.{length}
 use Rattle.hall.specs.Layout.{Layout, layout, next, previous, sectorOf}
+use Rattle.hall.specs.Fate.{fate}
 use Rattle.hall.specs.Angle.{boundaryWith}
 use Rattle.hall.specs.Sample.{sampled, plus, minus, number}
 use Rattle.hall.specs.declared.Hall.{Hall}
@@ -27,6 +29,17 @@ signedWidth l Stray kept p = pos 0
 abbrev pub moved : ℕ → ℤ → ℕ
 moved position (pos n) = plus n position
 moved position (negsuc n) = minus (suc n) position
+
+-- samples one after the other: the Hall part that they leave, and the sum of their widths
+abbrev pub fed : Sensors → Hall → List ℕ → ℤ → Hall
+fed s hall [] offset = hall
+fed s hall (p ∷ later) offset = fed s (sampled s hall p offset .hall) later offset
+
+abbrev pub fedWidth : Sensors → Hall → List ℕ → ℤ → ℤ
+fedWidth s hall [] offset = pos 0
+fedWidth s hall (p ∷ later) offset =
+    signedWidth (layout s) (fate (layout s) p (hall .kept)) (hall .kept) p
+    +ℤ fedWidth s (sampled s hall p offset .hall) later offset
 
 -- ---- steps, one after the other
 

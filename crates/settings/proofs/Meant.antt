@@ -36,7 +36,7 @@ length-meant numbers either = go (eqb (length numbers) settingCount) refl either
         let is = eqb-true (length numbers) allSettings all in
         rw (meant-of-25 numbers is) is
 
--- "with setting 25 = 3 it is the same load as L": what is meant means itself
+-- what is meant means itself: 25 numbers of which the last is 3 are the same load as the 24 before it
 pub meant-again : (numbers : List ℕ) → (eqb (length numbers) settingCount || eqb (length numbers) allSettings) ≡ true
     → meant (meant numbers) ≡ meant numbers
 meant-again numbers either = meant-of-25 (meant numbers) (length-meant numbers either)

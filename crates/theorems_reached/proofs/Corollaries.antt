@@ -139,7 +139,7 @@ module _ (d : Drive) (r : Reached d) where
 
   -- ---- two sensors
 
-  -- With two sensors cause 15 stands at no tick: a trip by strays can be cleared at once.
+  -- With two sensors the dead streak is never 2, which is cause 15.
   pub no-dead-cause : d .sensors ≡ Two → eqb (d .hall .«dead_streak») 2 ≡ false
   no-dead-cause two = rw (r .hall .never-dead two)
 

@@ -7,3 +7,4 @@ pub mod Flags
 pub mod Ticks
 pub mod Keeps
 pub mod Corollaries
+pub mod Turns

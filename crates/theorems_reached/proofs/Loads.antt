@@ -5,14 +5,14 @@ use mathlib.Core.List.{List, [], _∷_, map}
 use Prim.Native.Nat.{ℕ, zero, suc, _+_, _≤_, _<_}
 use native.Mathlib.Omega.{arith}
 use native.Mathlib.Nat.{le-of-suc-le-suc, not-suc-le-zero}
-use lib.Dec.{T, eqb, leb, eqb→eq, leb→le}
+use lib.Dec.{T, eqb, leb, leb→le}
 use lib.Ieee.Bits.{is-true}
 use lib.ListN.{length, getD, take, length-take}
 use mir.Facts.{T-not-not, and-yes}
 use Rattle.verdicts.specs.Table.{verdict}
 use Rattle.verdicts.proofs.Passed.{Passed, passed}
 use Rattle.numbers.proofs.Fill.{first-at}
-use Rattle.settings.specs.Settings.{settingCount, allSettings, meant}
+use Rattle.settings.specs.Settings.{settingCount, allSettings, meant, HallSensors}
 use Rattle.settings.proofs.Meant.{length-meant}
 use Rattle.settings.specs.Rules.{rule, related, indices, lowest, highest, settingRow, settingRows}
 use Rattle.settings.proofs.Places.{place-at}
@@ -75,6 +75,17 @@ accepted-settings d numbers e =
           rw (rule-kept s all i h)
           (rw (place-at i (omega (arith, h))) at (rule-at s indices (p .1 .1) i (omega (arith, h))));
     }
+
+-- "Setting 25 chooses 2 or 3 sensors": no other number is accepted
+pub accepted-sensors : (d : Drive) (numbers : List ℕ) → verdict (loadRows d numbers) .number ≡ 0
+    → (2 ≤ HallSensors (meant numbers)) × (HallSensors (meant numbers) ≤ 3)
+unfolding settingRows
+accepted-sensors d numbers e =
+    let n : ℕ = HallSensors (meant numbers) in
+    let kept : T (leb 2 n && leb n 3 && true) = rule-at (meant numbers) indices (passed (loadRows d numbers) tt e .1 .1) 24 (omega arith) in
+    let (both, _) = and-yes (leb 2 n && leb n 3) true kept in
+    let (least, most) = and-yes (leb 2 n) (leb n 3) both in
+    (leb→le 2 n least, leb→le n 3 most)
 
 -- an accepted setting lies in the range of its place, and in the relation that its place asks for
 module _ {s : List ℕ} (loaded : Loaded s) (i : ℕ) (h : i < settingCount) where

@@ -1,6 +1,5 @@
 -- `loaded` makes the load of the settings that the numbers mean, which is the load of the numbers.
-use mathlib.Core.Path.{_≡_}
-use lib.ListN.{length, drop}
+use lib.ListN.{drop}
 use denote.Ref.{now}
 use borrow.Author.Needs.{needs}
 use Rattle.drive.proofs.Loads.{same-load}

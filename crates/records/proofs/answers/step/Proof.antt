@@ -2,18 +2,16 @@
 use mathlib.Core.Path.{_≡_, refl, ap, sym, _∙_}
 use mathlib.Core.Bool.{Bool, false, cond}
 use mathlib.Core.List.{List}
-use Prim.Native.Nat.{ℕ, _+_, _≤_}
+use Prim.Native.Nat.{ℕ}
 use native.Mathlib.Omega.{arith}
 use lib.ListN.{length, drop, length-drop}
 use denote.Ref.{now}
 use borrow.Author.Needs.{needs}
 use Rattle.drive.specs.AnyCall.{Call, loads, cycles, ticks, reply}
 use Rattle.drive.specs.declared.answer.Reply.{Reply}
-use Rattle.records.specs.Decoded.{loadSize}
 use Rattle.drive.specs.declared.Drive.{Drive}
 use Rattle.report.specs.Line.{line}
 use Rattle.streams.specs.Run.{Front, whole, Outcome, rest, refused, lined, follow, runs, outputAfter}
-use Rattle.streams.proofs.Parts.{tail}
 use Rattle.streams.proofs.ByFront.{at-tight, one-front, one-whole}
 use Rattle.records.specs.Front.{sizeOf, front}
 use Rattle.records.specs.Run.{shiftline, ranOf}
