@@ -1,22 +1,25 @@
--- Laws of the angle, over both layouts: what it depends on, and the offset's sign.
-use mathlib.Core.Path.{_≡_, refl, ap, _∙_}
+-- Laws of the angle, over both layouts: what it depends on, the offset's sign, and that a full turn leaves it.
+use mathlib.Core.Path.{_≡_, refl, sym, ap, _∙_}
 use mathlib.Core.Bool.{Bool, true, false}
-use Prim.Native.Nat.{ℕ, _%_, _*_, _/_}
+use Prim.Native.Nat.{ℕ, _<_, _^_, _%_, _*_, _/_}
 use native.Mathlib.Omega.{arith}
 use lib.Dec.{T}
 use lib.IntN.{ℤ, pos, negsuc, +ℤ-idr}
 use mir.Syntax.{w16}
 use mir.Val.{SFits, ofZ, toZ}
 use mir.Facts.{toZ-ofZ, sfits-toZ}
-use Rattle.hall.specs.Layout.{layout}
+use Rattle.hall.specs.Layout.{layout, among}
 use Rattle.hall.specs.Fate.{fate}
 use Rattle.hall.specs.Angle.{twelfth, withOffset, boundaryWith, modulo}
 use Rattle.hall.specs.Sample.{sampled, after, number}
+use Rattle.hall.specs.Turns.{Way, onward, width, turned}
 use Rattle.hall.specs.declared.Hall.{Hall}
 use Rattle.hall.specs.declared.fate.Fate.{Fate}
 use Rattle.hall.specs.declared.fate.Fate.the-variants.{Dead, First, Same, Forward, Back, Stray}
 use Rattle.hall.specs.declared.fate.Kept.{Kept}
+use Rattle.hall.specs.declared.fate.Kept.the-variants.{Pattern}
 use Rattle.hall.specs.declared.layout.Sensors.{Sensors}
+use Rattle.hall.proofs.Laws.{round, counted-small, step-position, step-kept, step-angle, full-turn}
 
 -- The fates that give an angle.
 abbrev pub gives-angle : Fate → Bool
@@ -75,3 +78,22 @@ offset-added s hall p offset gives = go (fate (layout s) p (hall .kept)) gives
     go Forward gives = rw unturned
     go Back gives = rw unturned
     go Stray gives = absurd gives
+
+-- A full turn after a step the same way leaves the angle where the step had brought it.
+pub angle-stays :
+    (s : Sensors) (way : Way) (before : Hall) (p : ℕ) (offset : ℤ)
+    → before .position < 2 ^ 32
+    → T (among (layout s .order) p)
+    → before .kept ≡ Pattern p
+    → (let there : ℕ = onward (layout s) way p in
+    let hall : Hall = sampled s before there offset .hall in
+    turned s way hall there offset .angle ≡ hall .angle)
+angle-stays s way before p offset small stands kept =
+    let there : ℕ = onward (layout s) way p in
+    let hall : Hall = sampled s before there offset .hall in
+    let is = step-position s way before p offset stands kept in
+    full-turn s way hall there offset (rw is (counted-small way (width (layout s) way p) (before .position)))
+    (round s way p stands .stands)
+    (step-kept s way before p offset stands kept)
+    .angle
+    ∙ sym (step-angle s way before p offset stands kept)

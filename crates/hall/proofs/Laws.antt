@@ -116,7 +116,7 @@ none-counted : (way : Way) (position : ℕ) → position < 2 ^ 32 → position �
 none-counted clockwise position small = omega arith
 none-counted counterclockwise position small = omega arith
 
-counted-small : (way : Way) (count position : ℕ) → counted way count position < 2 ^ 32
+pub counted-small : (way : Way) (count position : ℕ) → counted way count position < 2 ^ 32
 counted-small clockwise count position = omega arith
 counted-small counterclockwise count position = omega arith
 

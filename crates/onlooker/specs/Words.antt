@@ -1,8 +1,8 @@
 -- This drive as the onlooker of demand 3 knows it: the words of its calls and answers. The numbers here are those of a load, a sample or a
 -- tick, or shown by an answer: nothing is read off the drive's state. The types of calls and answers are the drive's; every test on them
--- is written anew here from documents 01 and 02, so that a mistake made in the drive's definitions and code alike is not made here. Causes 0, 1,
--- 2, 3, 6 and 15 are told by what comes in. Causes 4, 7 and 14 "count only ticks taken in MOTORRUN": none stands in FAULT, so no exit has
--- to ask for them, and while the drive runs the live word tells them.
+-- is written anew here from documents 01 and 02, so that a mistake made in the drive's definitions and code alike is not made here.
+-- Causes 0, 1, 2, 3, 6 and 15 are told by what comes in. Causes 4, 7 and 14 "count only ticks taken in MOTORRUN": none stands in FAULT, so
+-- no exit has to ask for them, and while the drive runs the live word tells them.
 use Prim.Native.Nat.{ℕ, _-_, _/_, _%_, _^_}
 use mathlib.Core.Bool.{Bool, not, _&&_, _||_, cond}
 use mathlib.Core.List.{List, [], _∷_, _++_}
