@@ -34,7 +34,10 @@ Meaning bytes (Cycle fields) = front bytes ≡ whole (as-in-shiftline (cycles fi
 Meaning bytes (Tick fields) = front bytes ≡ whole (as-in-shiftline (ticks fields))
 
 module _ (bytes given : List ℕ) where
-  loaded : counts (length given) ≡ true → given ≡ settingsOf (length given) bytes → sizeOf (as-in-shiftline (loads given)) ≤ length bytes
+  loaded :
+      counts (length given) ≡ true
+      → given ≡ settingsOf (length given) bytes
+      → sizeOf (as-in-shiftline (loads given)) ≤ length bytes
       → front bytes ≡ whole (as-in-shiftline (loads given))
       → Loads bytes 1 (length given)
   unfolding settingsOf

@@ -90,7 +90,8 @@ sectors-meet Two = one-of (λ p. T (meets two p)) (two .order) (tt, (tt, (tt, (t
 
 -- ---- counts
 
-pub uncounted : (way : Way) (count position : ℕ) → position < 2 ^ 32 → counted (opposite way) count (counted way count position) ≡ position
+pub uncounted : (way : Way) (count position : ℕ) → position < 2 ^ 32
+    → counted (opposite way) count (counted way count position) ≡ position
 uncounted clockwise count position small = omega arith
 uncounted counterclockwise count position small = omega arith
 
@@ -246,7 +247,8 @@ module _ (s : Sensors) (way : Way) (offset : ℤ) where
 -- with three sensors n steps are n counts
 pub n-counts : (way : Way) (n p : ℕ) → T (among (three .order) p) → crossed three way n p ≡ n
 n-counts way zero p stands = refl
-n-counts way (suc n) p stands = rw (single way p stands, n-counts way n (onward three way p) (round Three way p stands .stands)) (omega arith)
+n-counts way (suc n) p stands =
+    rw (single way p stands, n-counts way n (onward three way p) (round Three way p stands .stands)) (omega arith)
   where
     single : (way : Way) (p : ℕ) → T (among (three .order) p) → width three way p ≡ 1
     single clockwise =
@@ -265,7 +267,9 @@ full-turn s way hall p offset small stands kept =
     let l : Layout = layout s in
     let r = round s way p stands in
     record {
-      six = n-steps s way offset (length (l .order)) hall p small stands kept ∙ ap (λ (n : ℕ). counted way n (hall .position)) (r .six);
+      six =
+          n-steps s way offset (length (l .order)) hall p small stands kept
+          ∙ ap (λ (n : ℕ). counted way n (hall .position)) (r .six);
       pattern = n-kept s way offset (length (l .order)) hall p stands kept ∙ ap Pattern (r .all-round);
       angle = turn-angle s stands kept ∙ ap (entered l way offset) (r .all-round);
     }

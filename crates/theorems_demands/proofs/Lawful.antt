@@ -45,8 +45,8 @@ use Rattle.onlooker.specs.Words.{words, deadCauseOf}
 use Rattle.theorems_demands.specs.Supervised.{DriveDemand3}
 use Rattle.theorems_demands.proofs.Shown.{inside, fault-shown, gates-ask, dark, shows-turning}
 use Rattle.theorems_demands.proofs.Causes.{dead-shows}
-use Rattle.theorems_demands.proofs.Remembers.{Agree, Remembers, remembers-power-up, afterRefused, refused-remembers, load-remembers}
-use Rattle.theorems_demands.proofs.Remembers.{cycle-remembers, tick-remembers}
+use Rattle.theorems_demands.proofs.Remembers.{Agree, Remembers, remembers-power-up, afterRefused, refused-remembers}
+use Rattle.theorems_demands.proofs.Remembers.{load-remembers, cycle-remembers, tick-remembers}
 use Rattle.theorems_demands.proofs.Ticks
 use Rattle.theorems_demands.proofs.Tests.{never-both, idle-or-stop, not-both, begins, begins-nothing}
 

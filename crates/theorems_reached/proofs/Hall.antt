@@ -135,7 +135,8 @@ module _ (s : Sensors) (hall : Hall) (within : HallWithin s hall) where
       (pattern : ℕ) (offset : ℤ)
       → T (among (layout s .order) pattern)
       → (kept : Kept)
-      → HallWithin s (after (layout s) hall pattern offset (beside (previous (layout s) pattern) pattern (next (layout s) pattern) kept) .hall)
+      → (let l : Layout = layout s in
+      HallWithin s (after l hall pattern offset (beside (previous l pattern) pattern (next l pattern) kept) .hall))
   unfolding beside
   good-within pattern offset stands Nothing =
       kept-within s First pattern _ _ stands (within .position) (angle-fits _ offset)
@@ -159,7 +160,10 @@ module _ (s : Sensors) (hall : Hall) (within : HallWithin s hall) where
       back = kept-within s Back pattern _ _ stands (omega arith) (angle-fits _ offset)
 
   -- a pattern that a cycle takes
-  pub sampled-within : (pattern : ℕ) (offset : ℤ) → pattern ≤ highestPattern s → HallWithin s (sampled s hall pattern offset .hall)
+  pub sampled-within :
+      (pattern : ℕ) (offset : ℤ)
+      → pattern ≤ highestPattern s
+      → HallWithin s (sampled s hall pattern offset .hall)
   unfolding sampled fate
   sampled-within pattern offset small =
       by-test (λ (f : Fate). HallWithin s (after (layout s) hall pattern offset f .hall)) (among (layout s .order) pattern)

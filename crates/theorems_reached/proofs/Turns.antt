@@ -141,7 +141,9 @@ module _ (first second : ℕ) (first-small : first ≤ 4095) (second-small : sec
       → (verdict (loadRows d numbers) .number ≡ 0) × (load d numbers .drive ≡ loaded (meant numbers))
   unfolding load answer
   loaded-by d numbers =
-      settles (λ (r : Reply). r .answer .number ≡ 0 → (verdict (loadRows d numbers) .number ≡ 0) × (r .drive ≡ loaded (meant numbers)))
+      settles
+      (λ (r : Reply).
+      r .answer .number ≡ 0 → (verdict (loadRows d numbers) .number ≡ 0) × (r .drive ≡ loaded (meant numbers)))
       (verdict (loadRows d numbers)) (loaded (meant numbers)) d
       (λ none given. (none, refl))
       (λ refused given. absurd (subst T (sym (eq-eqb (verdict (loadRows d numbers) .number) 0 given) ∙ refused) tt))

@@ -12,7 +12,8 @@ returns c = rw (← c .before .before .before .judged .ensures, c .before .enum-
 returns-2 : tie.Need-returns-2
 unfolding sampled
 returns-2 c =
-    rw (← c .before .before .before .judged .ensures, c .before .enum-told2 .given .1, c .first-sample .ensures, toZ-ofZ (c .before .before .before .before .fits .offset))
+    let judged = c .before .before .before in
+    rw (← judged .judged .ensures, c .before .enum-told2 .given .1, c .first-sample .ensures, toZ-ofZ (judged .before .fits .offset))
 
 returns-3 : tie.Need-returns-3
 unfolding sampled
@@ -21,12 +22,14 @@ returns-3 c = rw (← c .before .before .before .judged .ensures, c .before .enu
 returns-4 : tie.Need-returns-4
 unfolding sampled
 returns-4 c =
-    rw (← c .before .before .before .judged .ensures, c .before .enum-told4 .given .1, c .forward-sample .ensures, toZ-ofZ (c .before .before .before .before .fits .offset))
+    let judged = c .before .before .before in
+    rw (← judged .judged .ensures, c .before .enum-told4 .given .1, c .forward-sample .ensures, toZ-ofZ (judged .before .fits .offset))
 
 returns-5 : tie.Need-returns-5
 unfolding sampled
 returns-5 c =
-    rw (← c .before .before .before .judged .ensures, c .before .enum-told5 .given .1, c .back-sample .ensures, toZ-ofZ (c .before .before .before .before .fits .offset))
+    let judged = c .before .before .before in
+    rw (← judged .judged .ensures, c .before .enum-told5 .given .1, c .back-sample .ensures, toZ-ofZ (judged .before .fits .offset))
 
 returns-6 : tie.Need-returns-6
 unfolding sampled

@@ -39,7 +39,9 @@ whole-load : (d : Drive) (o : Onlooker) (answer : Answer) (count : ℕ) (bytes :
     → heardLoad d o answer (settingsIn count bytes) count ≡ heardCall d o answer (loads (settingsOf count bytes))
 whole-load d o answer count bytes all known =
     let numbers : List ℕ = settingsOf count bytes in
-    let either : (eqb (length numbers) settingCount || eqb (length numbers) allSettings) ≡ true = rw (length-settings count bytes) known in
+    let either : (eqb (length numbers) settingCount || eqb (length numbers) allSettings) ≡ true =
+    rw (length-settings count bytes) known
+    in
     rw (
       known,
       le-leb (loadSize count) (length bytes) all,

@@ -101,8 +101,9 @@ returns-6 c =
     let size = c .before .before .before .before in
     let told = size .before .before in
     let there = loads-there told in
+    let is = size-of-load (told .before .count .given .0 .0) (bytes (told .before .before .before)) (there .2) in
     replied (told .before .before .before) (loads _) (there .0) (size .before .loaded .ensures)
-    (rw (size .load-size .ensures, ← size-of-load (told .before .count .given .0 .0) (bytes (told .before .before .before)) (there .2)) at (c .before .before .answering .ensures))
+    (rw (size .load-size .ensures, ← is) at (c .before .before .answering .ensures))
 
 returns-7 : tie.Need-returns-7
 returns-7 c =
