@@ -1,13 +1,14 @@
--- A full turn after a load, of calls and their answers: each cycle of it is accepted and hands its pattern to the Hall part, of which
--- `hall` Laws.antt shows the turn.
+-- What a load of 24 numbers chooses; and a full turn after a load, of calls and their answers: each cycle of it is accepted and hands its
+-- pattern to the Hall part, of which `hall` Laws.antt shows the turn.
 use mathlib.Core.Path.{_≡_, refl, sym, ap, subst, _∙_}
 use mathlib.Core.Bool.{not}
-use mathlib.Core.List.{List}
+use mathlib.Core.List.{List, [], _∷_, _++_}
 use Prim.Native.Nat.{ℕ, zero, suc, _≤_}
 use native.Mathlib.Omega.{arith}
 use lib.Dec.{T}
 use lib.IntN.{ℤ}
-use lib.ListN.{length, take}
+use lib.ListN.{length, getD, take}
+use lib.Seq.{getD-at}
 use lib.Ieee.Bits.{is-true, is-false}
 use mir.Syntax.{w16}
 use mir.Val.{toZ}
@@ -25,8 +26,8 @@ use Rattle.hall.specs.declared.layout.Sensors.{Sensors}
 use Rattle.hall.specs.declared.layout.Sensors.the-variants.{Three, Two}
 use Rattle.hall.proofs.Layouts.{one-of}
 use Rattle.hall.proofs.Laws.{round, step-kept, full-turn, by-fate}
-use Rattle.settings.specs.Settings.{settingCount, meant, HallAngleOffset}
-use Rattle.settings.proofs.Meant.{length-meant}
+use Rattle.settings.specs.Settings.{settingCount, meant, HallAngleOffset, HallSensors}
+use Rattle.settings.proofs.Meant.{meant-of-24, length-meant}
 use Rattle.states.specs.States.{is}
 use Rattle.verdicts.specs.Table.{verdict}
 use Rattle.drive.specs.Answer.{answer, reply}
@@ -36,7 +37,29 @@ use Rattle.drive.specs.declared.Drive.{Drive}
 use Rattle.drive.specs.declared.answer.Reply.{Reply}
 use Rattle.drive.proofs.Settles.{settles}
 use Rattle.theorems_reached.proofs.Loads.{accepted-count}
-use Rattle.theorems_reached.specs.Turns.{shows, turning, TurnAnswered}
+use Rattle.theorems_reached.specs.Turns.{UsualSensors, shows, turning, TurnAnswered}
+
+-- an accepted load leaves what its numbers mean
+loaded-by : (d : Drive) (numbers : List ℕ) → load d numbers .answer .number ≡ 0
+    → (verdict (loadRows d numbers) .number ≡ 0) × (load d numbers .drive ≡ loaded (meant numbers))
+unfolding load answer
+loaded-by d numbers =
+    settles
+    (λ (r : Reply).
+    r .answer .number ≡ 0 → (verdict (loadRows d numbers) .number ≡ 0) × (r .drive ≡ loaded (meant numbers)))
+    (verdict (loadRows d numbers)) (loaded (meant numbers)) d
+    (λ none given. (none, refl))
+    (λ refused given. absurd (subst T (sym (eq-eqb (verdict (loadRows d numbers) .number) 0 given) ∙ refused) tt))
+
+-- 24 numbers choose three sensors
+pub usual-sensors :
+    (d : Drive) (numbers : List ℕ)
+    → load d numbers .answer .number ≡ 0
+    → length numbers ≡ settingCount
+    → UsualSensors d numbers
+usual-sensors d numbers accepted is =
+    let third : HallSensors (numbers ++ (3 ∷ [])) ≡ 3 = getD-at numbers 3 [] 0 24 is in
+    record { usual = rw (loaded-by d numbers accepted .1, meant-of-24 numbers is, third) }
 
 -- each pattern of a layout is one that a cycle takes
 taken : (s : Sensors) (p : ℕ) → T (among (layout s .order) p) → p ≤ highestPattern s
@@ -135,18 +158,6 @@ module _ (first second : ℕ) (first-small : first ≤ 4095) (second-small : sec
       (walked s way (suc n) (sampled s h p (offset d) .hall) p (offset d)))
       fresh
       first-one))
-
-  -- an accepted load leaves what its numbers mean
-  loaded-by : (d : Drive) (numbers : List ℕ) → load d numbers .answer .number ≡ 0
-      → (verdict (loadRows d numbers) .number ≡ 0) × (load d numbers .drive ≡ loaded (meant numbers))
-  unfolding load answer
-  loaded-by d numbers =
-      settles
-      (λ (r : Reply).
-      r .answer .number ≡ 0 → (verdict (loadRows d numbers) .number ≡ 0) × (r .drive ≡ loaded (meant numbers)))
-      (verdict (loadRows d numbers)) (loaded (meant numbers)) d
-      (λ none given. (none, refl))
-      (λ refused given. absurd (subst T (sym (eq-eqb (verdict (loadRows d numbers) .number) 0 given) ∙ refused) tt))
 
   -- After any accepted load, from any pattern of the chosen layout, either way round.
   pub turn-answered :

@@ -1,5 +1,5 @@
--- Document 02, M-101: "a full turn is six counts either way", of calls and their answers. What a turn of the Hall part is stands in `hall`
--- Turns.antt.
+-- Document 02, M-101, of calls and their answers: which sensors a load of 24 numbers chooses, and that "a full turn is six counts either
+-- way". What a turn of the Hall part is stands in `hall` Turns.antt.
 use Prim.Native.Nat.{ℕ, zero, suc}
 use mathlib.Core.Path.{_≡_}
 use mathlib.Core.List.{List}
@@ -9,12 +9,17 @@ use mir.Val.{toZ}
 use Rattle.hall.specs.Layout.{layout}
 use Rattle.hall.specs.Turns.{Way, onward, counted, entered}
 use Rattle.hall.specs.declared.layout.Sensors.{Sensors}
+use Rattle.hall.specs.declared.layout.Sensors.the-variants.{Three}
 use Rattle.settings.specs.Settings.{meant, HallAngleOffset}
 use Rattle.fields.specs.declared.Cycle.{Cycle}
 use Rattle.drive.specs.Calls.{chosen, load, cycle}
 use Rattle.drive.specs.declared.Drive.{Drive}
 use Rattle.drive.specs.declared.answer.Answer.{Answer}
 use Rattle.drive.specs.declared.answer.Reply.{Reply}
+
+-- "a load of 24 numbers means 3", whatever the drive was loaded with before
+pub record UsualSensors (d : Drive) (numbers : List ℕ) : Type 0 where
+  pub usual : load d numbers .drive .sensors ≡ Three
 
 -- two current samples, which the Hall part does not ask for
 module _ (first second : ℕ) where
