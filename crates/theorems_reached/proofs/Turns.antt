@@ -1,18 +1,18 @@
--- What a load of 24 numbers chooses; and a full turn after a load, of calls and their answers: each cycle of it is accepted and hands its
--- pattern to the Hall part, of which `hall` Laws.antt shows the turn.
+-- A full turn after a load, of calls and their answers: each cycle of it is accepted and hands its pattern to the Hall part, of which
+-- `hall` Laws.antt shows the turn.
 use mathlib.Core.Path.{_≡_, refl, sym, ap, subst, _∙_}
-use mathlib.Core.Bool.{not}
-use mathlib.Core.List.{List, [], _∷_, _++_}
+use mathlib.Core.Bool.{Bool, true, false, not, _||_}
+use mathlib.Core.List.{List, [], _∷_}
 use Prim.Native.Nat.{ℕ, zero, suc, _≤_}
 use native.Mathlib.Omega.{arith}
-use lib.Dec.{T}
+use lib.Dec.{T, eqb}
 use lib.IntN.{ℤ}
-use lib.ListN.{length, getD, take}
+use lib.ListN.{length, getD, take, List·getD-append}
 use lib.Seq.{getD-at}
 use lib.Ieee.Bits.{is-true, is-false}
 use mir.Syntax.{w16}
 use mir.Val.{toZ}
-use borrow.Author.Tests.{le-ltb, eq-eqb}
+use borrow.Author.Tests.{le-ltb, eq-eqb, eqb-true, eqb-false}
 use Rattle.numbers.proofs.Fill.{first-at}
 use Rattle.hall.specs.Layout.{three, two, layout, among}
 use Rattle.hall.specs.Fate.{fate, beside}
@@ -26,8 +26,8 @@ use Rattle.hall.specs.declared.layout.Sensors.{Sensors}
 use Rattle.hall.specs.declared.layout.Sensors.the-variants.{Three, Two}
 use Rattle.hall.proofs.Layouts.{one-of}
 use Rattle.hall.proofs.Laws.{round, step-kept, full-turn, by-fate}
-use Rattle.settings.specs.Settings.{settingCount, meant, HallAngleOffset, HallSensors}
-use Rattle.settings.proofs.Meant.{meant-of-24, length-meant}
+use Rattle.settings.specs.Settings.{settingCount, allSettings, meant, HallAngleOffset}
+use Rattle.settings.proofs.Meant.{meant-of-24, meant-of-others, length-meant}
 use Rattle.states.specs.States.{is}
 use Rattle.verdicts.specs.Table.{verdict}
 use Rattle.drive.specs.Answer.{answer, reply}
@@ -37,7 +37,7 @@ use Rattle.drive.specs.declared.Drive.{Drive}
 use Rattle.drive.specs.declared.answer.Reply.{Reply}
 use Rattle.drive.proofs.Settles.{settles}
 use Rattle.theorems_reached.proofs.Loads.{accepted-count}
-use Rattle.theorems_reached.specs.Turns.{UsualSensors, shows, turning, TurnAnswered}
+use Rattle.theorems_reached.specs.Turns.{named, shows, turning, TurnAnswered}
 
 -- an accepted load leaves what its numbers mean
 loaded-by : (d : Drive) (numbers : List ℕ) → load d numbers .answer .number ≡ 0
@@ -51,15 +51,28 @@ loaded-by d numbers =
     (λ none given. (none, refl))
     (λ refused given. absurd (subst T (sym (eq-eqb (verdict (loadRows d numbers) .number) 0 given) ∙ refused) tt))
 
--- 24 numbers choose three sensors
-pub usual-sensors :
-    (d : Drive) (numbers : List ℕ)
-    → load d numbers .answer .number ≡ 0
-    → length numbers ≡ settingCount
-    → UsualSensors d numbers
-usual-sensors d numbers accepted is =
-    let third : HallSensors (numbers ++ (3 ∷ [])) ≡ 3 = getD-at numbers 3 [] 0 24 is in
-    record { usual = rw (loaded-by d numbers accepted .1, meant-of-24 numbers is, third) }
+-- the drive chooses the sensors that the numbers name
+chosen-named : (d : Drive) (numbers : List ℕ) → chosen (meant numbers) ≡ named d numbers
+chosen-named d numbers = go (eqb (length numbers) settingCount) refl
+  where
+    go : (few : Bool) → eqb (length numbers) settingCount ≡ few → chosen (meant numbers) ≡ named d numbers
+    go true e =
+        let is = eqb-true (length numbers) settingCount e in
+        rw (meant-of-24 numbers is, getD-at numbers 3 [] 0 24 is, e)
+    go false e = rw (meant-of-others numbers (eqb-false (length numbers) settingCount e), e)
+
+-- and their tenth number is the offset, also where a 25th is added
+same-offset : (numbers : List ℕ) → (eqb (length numbers) settingCount || eqb (length numbers) allSettings) ≡ true
+    → HallAngleOffset (take settingCount (meant numbers)) ≡ getD numbers 9 0
+same-offset numbers either =
+    first-at settingCount (meant numbers) 9 (omega arith) (omega (arith, length-meant numbers either))
+    ∙ go (eqb (length numbers) settingCount) refl
+  where
+    go : (few : Bool) → eqb (length numbers) settingCount ≡ few → getD (meant numbers) 9 0 ≡ getD numbers 9 0
+    go true e =
+        let is = eqb-true (length numbers) settingCount e in
+        rw (meant-of-24 numbers is) (List·getD-append numbers (3 ∷ []) 0 9 (omega (arith, is)))
+    go false e = rw (meant-of-others numbers (eqb-false (length numbers) settingCount e))
 
 -- each pattern of a layout is one that a cycle takes
 taken : (s : Sensors) (p : ℕ) → T (among (layout s .order) p) → p ≤ highestPattern s
@@ -159,26 +172,31 @@ module _ (first second : ℕ) (first-small : first ≤ 4095) (second-small : sec
       fresh
       first-one))
 
-  -- After any accepted load, from any pattern of the chosen layout, either way round.
+  -- After any accepted load, from any pattern of the layout that its numbers name, either way round.
   pub turn-answered :
       (way : Way) (d : Drive) (numbers : List ℕ) (p : ℕ)
       → load d numbers .answer .number ≡ 0
-      → T (among (layout (chosen (meant numbers)) .order) p)
+      → T (among (layout (named d numbers) .order) p)
       → TurnAnswered first second way d numbers p
   unfolding Shown
   turn-answered way d numbers p accepted stands =
-      let s : Sensors = chosen (meant numbers) in
+      let s : Sensors = named d numbers in
       let e : Drive = loaded (meant numbers) in
       let by-load = loaded-by d numbers accepted in
       let hall : Hall = sampled s poweredUp p (offset e) .hall in
       let kept = first-kept s p (offset e) stands in
       let whole : FullTurn s way hall p (offset e) = full-turn s way hall p (offset e) (rw (kept .1) (omega arith)) stands (kept .0) in
-      let same : HallAngleOffset (take settingCount (meant numbers)) ≡ HallAngleOffset (meant numbers) =
-      first-at settingCount (meant numbers) 9 (omega arith)
-      (omega (arith, length-meant numbers (accepted-count d numbers (by-load .0))))
-      in
+      let same = same-offset numbers (accepted-count d numbers (by-load .0)) in
       let shown : Shown (turning first second s way (length (layout s .order)) (load d numbers .drive) p) (turned s way hall p (offset e)) =
-      rw (by-load .1) (turned-after way e p tt refl stands)
+      rw (by-load .1)
+      (subst
+      (λ (x : Sensors).
+      T (among (layout x .order) p)
+      → Shown (turning first second x way (length (layout x .order)) e p)
+      (turned x way (sampled x poweredUp p (offset e) .hall) p (offset e)))
+      (chosen-named d numbers)
+      (λ there. turned-after way e p tt refl there)
+      stands)
       in
       record {
         accepted = shown .0;

@@ -1,25 +1,27 @@
--- Document 02, M-101, of calls and their answers: which sensors a load of 24 numbers chooses, and that "a full turn is six counts either
--- way". What a turn of the Hall part is stands in `hall` Turns.antt.
+-- Document 02, M-101, of calls and their answers: after a load "a full turn is six counts either way", with the sensors that its numbers
+-- name. Nothing is read off the drive's state: a drive that keeps one layout and judges by another gives other answers. What a turn of the
+-- Hall part is stands in `hall` Turns.antt.
 use Prim.Native.Nat.{ℕ, zero, suc}
 use mathlib.Core.Path.{_≡_}
+use mathlib.Core.Bool.{cond}
 use mathlib.Core.List.{List}
-use lib.ListN.{length}
+use lib.Dec.{eqb}
+use lib.ListN.{length, getD}
 use mir.Syntax.{w16}
 use mir.Val.{toZ}
 use Rattle.hall.specs.Layout.{layout}
 use Rattle.hall.specs.Turns.{Way, onward, counted, entered}
 use Rattle.hall.specs.declared.layout.Sensors.{Sensors}
-use Rattle.hall.specs.declared.layout.Sensors.the-variants.{Three}
-use Rattle.settings.specs.Settings.{meant, HallAngleOffset}
+use Rattle.hall.specs.declared.layout.Sensors.the-variants.{Three, Two}
 use Rattle.fields.specs.declared.Cycle.{Cycle}
-use Rattle.drive.specs.Calls.{chosen, load, cycle}
+use Rattle.drive.specs.Calls.{load, cycle}
 use Rattle.drive.specs.declared.Drive.{Drive}
 use Rattle.drive.specs.declared.answer.Answer.{Answer}
 use Rattle.drive.specs.declared.answer.Reply.{Reply}
 
--- "a load of 24 numbers means 3", whatever the drive was loaded with before
-pub record UsualSensors (d : Drive) (numbers : List ℕ) : Type 0 where
-  pub usual : load d numbers .drive .sensors ≡ Three
+-- "Setting 25 chooses 2 or 3 sensors; a load of 24 numbers means 3", whatever the drive was loaded with before
+abbrev pub named : Drive → List ℕ → Sensors
+named before numbers = cond (eqb (length numbers) 24) Three (cond (eqb (getD numbers 24 0) 2) Two Three)
 
 -- two current samples, which the Hall part does not ask for
 module _ (first second : ℕ) where
@@ -34,7 +36,7 @@ module _ (first second : ℕ) where
   -- A load; a cycle that shows a pattern; and then a cycle for each sector, one way round, so that the last shows the pattern again.
   abbrev pub afterATurn : Way → Drive → List ℕ → ℕ → Answer
   afterATurn way d numbers p =
-      let s : Sensors = chosen (meant numbers) in turning s way (length (layout s .order)) (load d numbers .drive) p .answer
+      let s : Sensors = named d numbers in turning s way (length (layout s .order)) (load d numbers .drive) p .answer
 
   -- The last is accepted, six counts from the 0 of the load, at the angle of the step onto the pattern.
   pub record TurnAnswered (way : Way) (d : Drive) (numbers : List ℕ) (p : ℕ) : Type 0 where
@@ -42,4 +44,4 @@ module _ (first second : ℕ) where
     pub six : afterATurn way d numbers p .position ≡ counted way 6 0
     pub angle :
         afterATurn way d numbers p .angle
-        ≡ entered (layout (chosen (meant numbers))) way (toZ w16 (HallAngleOffset (meant numbers))) p
+        ≡ entered (layout (named d numbers)) way (toZ w16 (getD numbers 9 0)) p
