@@ -6,19 +6,22 @@ use hall::fate::Fate;
 use hall::fate::Kept;
 use hall::layout::Sensors;
 use libc::STDOUT_FILENO;
+ghost use Prim.Native.Nat.{_<_};
 
-// The kept patterns in the order of the lines: none, and then the layout's.
-fn kept_of_three(place: u8) -> Kept {
+// The kept patterns in the order of the lines: none, and then the layout's, which begin at 1 or, with two sensors, at 0.
+fn kept_of(sensors: Sensors, place: u8) -> Kept {
     match place {
         0 => Kept::Nothing,
-        _ => Kept::Pattern(place),
+        _ => Kept::Pattern(pattern_of(sensors, place)),
     }
 }
 
-fn kept_of_two(place: u8) -> Kept {
-    match place {
-        0 => Kept::Nothing,
-        _ => Kept::Pattern(place - 1),
+fn pattern_of(sensors: Sensors, place: u8) -> u8
+    requires { ⌜ 0 < place ⌝ }
+{
+    match sensors {
+        Sensors::Three => place,
+        Sensors::Two => place - 1,
     }
 }
 
@@ -85,23 +88,18 @@ fn print_pair(sensors: Sensors, pattern: u8, kept: Kept) {
     print_angle(next.angle);
 }
 
-fn print_three() {
+// So many pairs, with so many kept patterns for each pattern, none of them included.
+fn print_pairs(sensors: Sensors, pairs: u8, kept: u8)
+    requires { ⌜ 0 < kept ⌝ }
+{
     let mut pair: u8 = 0;
-    while pair < 56 {
-        print_pair(Sensors::Three, pair / 7, kept_of_three(pair % 7));
-        pair += 1;
-    }
-}
-
-fn print_two() {
-    let mut pair: u8 = 0;
-    while pair < 20 {
-        print_pair(Sensors::Two, pair / 5, kept_of_two(pair % 5));
+    while pair < pairs {
+        print_pair(sensors, pair / kept, kept_of(sensors, pair % kept));
         pair += 1;
     }
 }
 
 fn main() {
-    print_three();
-    print_two();
+    print_pairs(Sensors::Three, 56, 7);
+    print_pairs(Sensors::Two, 20, 5);
 }
