@@ -19,7 +19,7 @@ use Rattle.drive.specs.declared.Drive.{Drive}
 use Rattle.drive.specs.declared.answer.Answer.{Answer}
 use Rattle.drive.specs.declared.answer.Reply.{Reply}
 
--- "Setting 25 chooses 2 or 3 sensors; a load of 24 numbers means 3", whatever the drive was loaded with before
+-- "Setting 25 chooses 2 or 3 sensors; a load of 24 numbers means 3": `before`, the drive that the load finds, is not asked
 abbrev pub named : Drive → List ℕ → Sensors
 named before numbers = cond (eqb (length numbers) 24) Three (cond (eqb (getD numbers 24 0) 2) Two Three)
 
