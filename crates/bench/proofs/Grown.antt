@@ -9,13 +9,13 @@ use native.Mathlib.Omega.{arith}
 use lib.Dec.{eqb, ltb}
 use lib.ListN.{length, length-append}
 use borrow.Author.Tests.{ltb-true, ltb-false, le-ltb}
-use Rattle.records.specs.Decoded.{byte, numbers}
+use Rattle.numbers.specs.Bytes.{byte, numbers}
 use Rattle.drive.specs.AnyCall.{Call}
 use Rattle.records.specs.Front as shiftline
 use Rattle.records.specs.Run.{mostHeld}
 use Rattle.records.proofs.MoreBytes as shiftline-grown
 use Rattle.records.proofs.MoreBytes.{byte-kept, numbers-kept}
-use Rattle.records.proofs.Numbers.{length-numbers}
+use Rattle.numbers.proofs.Bytes.{length-numbers}
 use Rattle.streams.specs.Run.{Front, end, unknown, short, whole}
 use Rattle.streams.proofs.Grown as streams
 use Rattle.streams.proofs.Grown.{no-byte, no-record, a-part, a-record}

@@ -6,9 +6,10 @@ use Prim.Native.Nat.{ℕ, _+_, _*_, _≤_, _<_}
 use native.Mathlib.Omega.{arith}
 use lib.ListN.{length}
 use Rattle.drive.specs.AnyCall.{loads, cycles, ticks}
-use Rattle.records.specs.Decoded.{byte, numbers, loadSize, counts, settingsOf}
+use Rattle.numbers.specs.Bytes.{byte, numbers}
+use Rattle.records.specs.Decoded.{loadSize, counts, settingsOf}
 use Rattle.records.proofs.Sizes.{size-of-load}
-use Rattle.records.proofs.Numbers.{length-numbers}
+use Rattle.numbers.proofs.Bytes.{length-numbers}
 use Rattle.streams.specs.Run.{Front, end, unknown, short, whole}
 use Rattle.streams.proofs.Grown.{no-byte, no-record, a-part, a-record}
 use Rattle.bench.specs.Table.{Record, as-in-shiftline, numbered, callOf, numberedSize, sizeOf, front, found}

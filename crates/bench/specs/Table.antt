@@ -6,7 +6,7 @@ use mathlib.Core.List.{List}
 use lib.Dec.{eqb, ltb}
 use lib.ListN.{length}
 use Rattle.drive.specs.AnyCall.{Call, loads, cycles, ticks}
-use Rattle.records.specs.Decoded.{byte, numbers}
+use Rattle.numbers.specs.Bytes.{byte, numbers}
 use Rattle.records.specs.Front as shiftline
 use Rattle.streams.specs.Run.{Front, end, unknown, short, whole}
 use Rattle.bench.specs.declared.find.Found.{Found}

@@ -1,9 +1,10 @@
 // What stands at a place of the input: the rows of the page's table.
 use fields::Cycle;
 use fields::Tick;
+use numbers::byte_at;
 use records::read;
 ghost use mathlib.Core.Path.{_≡_};
-ghost use lib.ListN.{drop, getD};
+ghost use lib.ListN.{drop};
 ghost use Rattle.bench.specs.Table.{front, found};
 
 // Of a load it tells where in the record its numbers begin and how many they are.
@@ -16,18 +17,11 @@ pub(crate) enum Found {
     Tick(Tick),
 }
 
-// The byte at a place, and 0 past the end.
-fn byte(bytes: &[u8], at: usize) -> u8
-    ensures { λ r. ⌜ r ≡ getD (now (bytes .entry)) at 0 ⌝ }
-{
-    if at < bytes.len() { bytes[at] } else { 0 }
-}
-
 pub(crate) fn find(input: &[u8], at: usize) -> Found
     ensures { λ r. ⌜ r ≡ found (front (drop at (now (input .entry)))) ⌝ }
 {
-    if byte(input, at) == b'N' {
-        let count = byte(input, at + 1);
+    if byte_at(input, at) == b'N' {
+        let count = byte_at(input, at + 1);
         if input.len() - at < 2 + 2 * (count as usize) {
             return Found::Short;
         }

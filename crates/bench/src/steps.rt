@@ -15,7 +15,7 @@ ghost use mathlib.Core.Bool.{false};
 ghost use Prim.Native.Nat.{_+_, _*_, _≤_};
 ghost use lib.ListN.{length, drop};
 ghost use Rattle.drive.specs.Calls.{load};
-ghost use Rattle.records.specs.Decoded.{numbers};
+ghost use Rattle.numbers.specs.Bytes.{numbers};
 ghost use Rattle.streams.specs.Run.{rest, lined, refused, runs, outputAfter};
 ghost use Rattle.bench.specs.Line.{lineRoom, motorLine};
 ghost use Rattle.bench.specs.Benchline.{benchline, ranOf};

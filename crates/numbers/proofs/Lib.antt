@@ -4,6 +4,7 @@ pub mod Sums
 pub mod Order
 pub mod Tests
 pub mod Fill
+pub mod Bytes
 pub mod Reply
 -- Of the promises themselves.
 pub mod OneReply

@@ -1,4 +1,3 @@
-pub mod Numbers
 pub mod Sizes
 pub mod Printed
 pub mod MoreBytes

@@ -11,7 +11,8 @@ use lib.ListN.{length, length-append, List·getD-append}
 use borrow.Author.Tests.{ltb-true, ltb-false, le-ltb, ne-eqb, eqb-true, eqb-false}
 use Rattle.settings.specs.Settings.{settingCount, allSettings}
 use Rattle.drive.specs.AnyCall.{Call, loads, cycles, ticks}
-use Rattle.records.specs.Decoded.{byte, number, numbers, loadSize, counts, settingsOf, cycleSize, cycleOf, tickSize, tickOf}
+use Rattle.numbers.specs.Bytes.{byte, number, numbers}
+use Rattle.records.specs.Decoded.{loadSize, counts, settingsOf, cycleSize, cycleOf, tickSize, tickOf}
 use Rattle.streams.specs.Run.{Front, short, whole}
 use Rattle.streams.proofs.Grown as streams
 use Rattle.streams.proofs.Grown.{no-byte, no-record, a-part, a-record}

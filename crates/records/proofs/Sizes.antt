@@ -12,7 +12,7 @@ use Rattle.settings.specs.Settings.{settingCount, allSettings}
 use Rattle.drive.specs.AnyCall.{Call, loads, cycles, ticks}
 use Rattle.records.specs.Decoded.{loadSize, counts, settingsOf}
 use Rattle.records.specs.Front.{sizeOf, shortest, longest}
-use Rattle.records.proofs.Numbers.{length-numbers}
+use Rattle.numbers.proofs.Bytes.{length-numbers}
 
 pub at-least-shortest : (r : Call) → shortest ≤ sizeOf r
 at-least-shortest (loads numbers) =

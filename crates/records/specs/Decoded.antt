@@ -1,32 +1,20 @@
 -- Document 01, "Report line and program": the numbers and fields in the bytes of a record.
-use Prim.Native.Nat.{ℕ, zero, suc, _+_, _*_}
+use Prim.Native.Nat.{ℕ, _+_, _*_}
 use mathlib.Core.Bool.{Bool, _&&_, _||_, cond}
-use mathlib.Core.List.{List, [], _∷_}
+use mathlib.Core.List.{List}
 use lib.IntN.{ℤ}
 use lib.Dec.{eqb, leb}
-use lib.ListN.{length, getD, replicate}
+use lib.ListN.{length, replicate}
 use mir.Syntax.{w16}
 use mir.Val.{toZ}
+use Rattle.numbers.specs.Bytes.{byte, number, numbers}
 use Rattle.settings.specs.Settings.{settingCount, allSettings, meant}
 use Rattle.fields.specs.declared.Cycle.{Cycle}
 use Rattle.fields.specs.declared.Tick.{Tick}
 
--- the byte at a place
-abbrev pub byte : ℕ → List ℕ → ℕ
-byte at bytes = getD bytes at 0
-
--- "Numbers are two bytes, high first": the number whose first byte stands at a place
-abbrev pub number : ℕ → List ℕ → ℕ
-number at bytes = byte at bytes * 256 + byte (at + 1) bytes
-
 -- "signed ones in two's complement"
 abbrev pub signedNumber : ℕ → List ℕ → ℤ
 signedNumber at bytes = toZ w16 (number at bytes)
-
--- so many numbers, one after the other
-unfoldable pub numbers : ℕ → ℕ → List ℕ → List ℕ
-numbers zero at bytes = []
-numbers (suc count) at bytes = number at bytes ∷ numbers count (at + 2) bytes
 
 -- "L and 24 numbers"; 02, M-101: "A program record M carries 25."
 abbrev pub loadSize : ℕ → ℕ

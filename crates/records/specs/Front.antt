@@ -8,7 +8,8 @@ use lib.ListN.{length}
 use Rattle.settings.specs.Settings.{settingCount, allSettings}
 use Rattle.drive.specs.AnyCall.{Call, loads, cycles, ticks}
 use Rattle.streams.specs.Run.{Front, end, unknown, short, whole}
-use Rattle.records.specs.Decoded.{byte, loadSize, settingsOf, cycleSize, cycleOf, tickSize, tickOf}
+use Rattle.numbers.specs.Bytes.{byte}
+use Rattle.records.specs.Decoded.{loadSize, settingsOf, cycleSize, cycleOf, tickSize, tickOf}
 use Rattle.records.specs.declared.Found.{Found}
 use Rattle.records.specs.declared.Found.the-variants.{End, Unknown, Short, Load, Cycle, Tick}
 

@@ -1,6 +1,7 @@
 // The fields of a record, read off its bytes. Each function is lent bytes that begin with the record.
 use fields::Cycle;
 use fields::Tick;
+use numbers::number_at;
 use numbers::signed;
 use settings::ALL_SETTINGS;
 use settings::USUAL_SENSORS;
@@ -9,27 +10,12 @@ ghost use Prim.Native.Nat.{_+_, _*_, _<_, _≤_};
 ghost use mathlib.Core.Bool.{true};
 ghost use lib.ListN.{length};
 ghost use Rattle.settings.specs.Settings.{meant};
-ghost use Rattle.records.specs.Decoded.{number, signedNumber, loadSize, counts, settingsOf, cycleSize, cycleOf, tickSize, tickOf};
-
-// Two bytes as a number, high first.
-fn joined(high: u8, low: u8) -> u16
-    ensures { λ r. ⌜ r ≡ high * 256 + low ⌝ }
-{
-    (high as u16) * 256 + (low as u16)
-}
-
-fn number(bytes: &[u8], at: usize) -> u16
-    requires { ⌜ at + 1 < length (now bytes) ⌝ }
-    ensures { λ r. ⌜ r ≡ number at (now (bytes .entry)) ⌝ }
-{
-    joined(bytes[at], bytes[at + 1])
-}
+ghost use Rattle.records.specs.Decoded.{signedNumber, loadSize, counts, settingsOf, cycleSize, cycleOf, tickSize, tickOf};
 
 fn signed_number(bytes: &[u8], at: usize) -> i16
-    requires { ⌜ at + 1 < length (now bytes) ⌝ }
     ensures { λ r. ⌜ r ≡ signedNumber at (now (bytes .entry)) ⌝ }
 {
-    signed(number(bytes, at))
+    signed(number_at(bytes, at))
 }
 
 // The settings that the numbers of a load mean.
@@ -41,7 +27,7 @@ pub(crate) fn settings_of(bytes: &[u8], count: u8) -> [u16; ALL_SETTINGS]
     let mut settings = [USUAL_SENSORS; ALL_SETTINGS];
     let mut i: usize = 0;
     while i < count {
-        settings[i] = number(bytes, 1 + 2 * i);
+        settings[i] = number_at(bytes, 1 + 2 * i);
         i += 1;
     }
     settings
@@ -53,8 +39,8 @@ pub(crate) fn cycle_of(bytes: &[u8]) -> Cycle
 {
     Cycle {
         pattern: bytes[1],
-        first: number(bytes, 2),
-        second: number(bytes, 4),
+        first: number_at(bytes, 2),
+        second: number_at(bytes, 4),
     }
 }
 
@@ -66,11 +52,11 @@ pub(crate) fn tick_of(bytes: &[u8]) -> Tick
         gate_kill: bytes[1],
         clear: bytes[2],
         command: bytes[3],
-        control: number(bytes, 4),
-        vdc_raw: number(bytes, 6),
-        vdc_filt: number(bytes, 8),
-        temperature: number(bytes, 10),
-        flx_m: number(bytes, 12),
+        control: number_at(bytes, 4),
+        vdc_raw: number_at(bytes, 6),
+        vdc_filt: number_at(bytes, 8),
+        temperature: number_at(bytes, 10),
+        flx_m: number_at(bytes, 12),
         trq_ref: signed_number(bytes, 14),
         speed: signed_number(bytes, 16),
         target: signed_number(bytes, 18),

@@ -4,9 +4,9 @@ use native.Mathlib.Nat.{zero-add}
 use native.Mathlib.Omega.{arith}
 use mathlib.Core.Bool.{Bool, true, false}
 use mathlib.Core.Path.{_≡_, refl, sym, ap, _∙_}
-use mathlib.Core.List.{List, _++_, append-assoc, append-nil}
+use mathlib.Core.List.{List, [], _++_, append-assoc, append-nil}
 use lib.Dec.{ltb}
-use lib.ListN.{length, take, drop, length-append, length-take, length-drop, drop-of-length-le}
+use lib.ListN.{length, take, drop, length-append, length-take, length-drop, drop-of-length-le, take-append-drop}
 use lib.Seq.{take-all, take-append-le, take-append-add, take-at, drop-at, drop-drop, length-take-le}
 use borrow.Author.Tests.{ltb-true, ltb-false}
 use Rattle.text.specs.Put.{behind, written}
@@ -117,6 +117,16 @@ pub first : {at : ℕ} {lent : List ℕ} {next : ℕ} {after : List ℕ} (bytes 
     → (next ≡ behind at bytes lent) × (after ≡ written at bytes lent)
     → Puts at bytes lent next after
 first bytes put = record { place = put .0; out = put .1 }
+
+-- before the first writer of a loop
+pub nothing-put : {at : ℕ} {lent : List ℕ} → at ≤ length lent → Puts at [] lent at lent
+unfolding behind
+nothing-put {at} {lent} inside =
+    let same : at + 0 ≡ at = omega arith in
+    record {
+      place = omega arith;
+      out = sym (written-whole at [] lent (omega arith) ∙ rw (append-nil, same) (take-append-drop at lent));
+    }
 
 pub and-then : {at : ℕ} {bytes lent : List ℕ} {next : ℕ} {middle : List ℕ} {last : ℕ} {after : List ℕ} (more : List ℕ)
     → Puts at bytes lent next middle

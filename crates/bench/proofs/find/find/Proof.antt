@@ -14,7 +14,7 @@ use Rattle.drive.specs.AnyCall.{Call, loads, cycles, ticks}
 use Rattle.streams.specs.Run.{Front, end, unknown, short, whole}
 use Rattle.records.specs.Front as shiftline
 use Rattle.records.specs.declared.Found as read-found
-use Rattle.records.proofs.Numbers.{length-numbers}
+use Rattle.numbers.proofs.Bytes.{length-numbers}
 use Rattle.bench.specs.Table.{asShiftline, numberedFront, front, found}
 use Rattle.bench.specs.declared.find.Found.{Found}
 use Rattle.bench.specs.declared.find.Found.the-variants.{End, Unknown, Short, Load, Cycle, Tick}
@@ -62,7 +62,7 @@ module _ (c : tie.Then1) where
   start = c .before .before .before
 
   is-n : getD (now (start .args .input)) (start .args .at) 0 ≡ 78
-  is-n = sym (c .before .byte .ensures) ∙ c .if1 .taken
+  is-n = sym (c .before .byte-at .ensures) ∙ c .if1 .taken
 
   there : start .args .at < length (now (start .args .input))
   there = inside (now (start .args .input)) (start .args .at) is-n
@@ -75,7 +75,7 @@ module _ (c : tie.After-byte2) where
   at = start (c .before) .args .at
 
   count-is : getD (drop at input) 1 0 ≡ c .byte2 .result
-  count-is = getD-drop at input 1 0 ∙ sym (c .byte2 .ensures)
+  count-is = getD-drop at input 1 0 ∙ sym (c .byte-at2 .ensures)
 
 returns : tie.Need-returns
 returns c =
@@ -106,7 +106,7 @@ module _ (c : tie.After-read) where
   arm said known =
       let bytes = drop (begun .args .at) (now (begun .args .input)) in
       let other = not-numbered (now (begun .args .input)) (begun .args .at)
-      (λ is. c .before .if1 .left (c .before .before .byte .ensures ∙ is)) in
+      (λ is. c .before .if1 .left (c .before .before .byte-at .ensures ∙ is)) in
       ap again (sym known ∙ c .read .ensures) ∙ sym (told-again (shiftline.front bytes)) ∙ ap found (sym other)
 
 pub find-spec : {M : Type 1} → statement M

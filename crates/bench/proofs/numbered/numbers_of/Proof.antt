@@ -7,8 +7,8 @@ use lib.Seq.{take-all, take-at}
 use denote.Ref.{now}
 use borrow.Author.Needs.{needs}
 use Rattle.numbers.proofs.Fill.{filled, filled-more}
-use Rattle.records.specs.Decoded.{numbers}
-use Rattle.records.proofs.Numbers.{length-numbers, number-at}
+use Rattle.numbers.specs.Bytes.{numbers}
+use Rattle.numbers.proofs.Bytes.{length-numbers, number-at}
 use Rattle.bench.proofs.numbered.numbers_of.Statement.{statement}
 use Rattle.bench.proofs.numbered.numbers_of.Tie as tie
 
@@ -33,7 +33,7 @@ loop-again c =
       rw (inv .4)
           (filled-more (replicate 255 0) (numbers (args .count) (args .first) bytes) (head .loop .i) (omega (arith, inv .1))
           (omega (arith, length-numbers (args .count) (args .first) bytes))
-          (c .number .ensures ∙ number-at (args .count) (args .first) bytes (head .loop .i) (c .before .loop-test .taken))),
+          (c .number-at .ensures ∙ number-at (args .count) (args .first) bytes (head .loop .i) (c .before .loop-test .taken))),
     )
 
 returns : tie.Need-returns Inv-loop μ-loop

@@ -2,7 +2,7 @@
 use mathlib.Core.Path.{sym, ap, _∙_}
 use lib.ListN.{length}
 use borrow.Author.Needs.{needs}
-use Rattle.records.proofs.Numbers.{length-numbers}
+use Rattle.numbers.proofs.Bytes.{length-numbers}
 use Rattle.streams.proofs.Parts.{tail}
 use Rattle.bench.proofs.steps.loaded.Statement.{statement}
 use Rattle.bench.proofs.steps.loaded.Tie as tie

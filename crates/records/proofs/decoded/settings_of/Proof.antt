@@ -10,8 +10,9 @@ use borrow.Author.Needs.{needs}
 use Rattle.numbers.proofs.Fill.{filled, filled-more}
 use Rattle.settings.specs.Settings.{allSettings, meant}
 use Rattle.settings.proofs.Meant.{threes, filled-meant}
-use Rattle.records.specs.Decoded.{number, loadSize, counts, settingsOf}
-use Rattle.records.proofs.Numbers.{number-at}
+use Rattle.numbers.specs.Bytes.{number}
+use Rattle.records.specs.Decoded.{loadSize, counts, settingsOf}
+use Rattle.numbers.proofs.Bytes.{number-at}
 use Rattle.records.proofs.Sizes.{length-settings}
 use Rattle.records.proofs.decoded.settings_of.Statement.{statement}
 use Rattle.records.proofs.decoded.settings_of.Tie as tie
@@ -57,7 +58,7 @@ loop-again c =
       rw (inv .5)
           (filled-more threes (settingsOf (args .count) bytes) (head .loop .i) (omega arith)
           (omega (arith, length-settings (args .count) bytes))
-          (c .number .ensures ∙ at-place (args .count) bytes (head .loop .i) (c .before .loop-test .taken))),
+          (c .number-at .ensures ∙ at-place (args .count) bytes (head .loop .i) (c .before .loop-test .taken))),
     )
 
 returns : tie.Need-returns Inv-loop μ-loop

@@ -7,7 +7,7 @@ use Rattle.records.proofs.decoded.signed_number.Tie as tie
 
 returns : tie.Need-returns
 returns c =
-    rw (toZ-ofZ {w = w16} {z = c .signed .result} (search needs), c .signed .ensures, c .before .number .ensures)
+    rw (toZ-ofZ {w = w16} {z = c .signed .result} (search needs), c .signed .ensures, c .before .number-at .ensures)
 
 pub signed-number-spec : {M : Type 1} → statement M
 signed-number-spec = tie.close (tie.spec (search needs) (search needs) returns)

@@ -1,0 +1,5 @@
+pub mod Image
+pub mod Table
+pub mod Reads
+pub mod Writes
+pub mod Choice
