@@ -40,7 +40,7 @@ start-next form blocks k = rw length-append (omega arith)
 -- "24 or 25 numbers" are 48 or 50 bytes
 pub data Size : Stored → Type 0 where
   none : Size empty
-  some : (numbers : List ℕ) → (eqb (length (words numbers)) 48 || eqb (length (words numbers)) 50) ≡ true
+  some : {numbers : List ℕ} → (eqb (length (words numbers)) 48 || eqb (length (words numbers)) 50) ≡ true
       → 0 < length (words numbers)
       → length (words numbers) ≤ 50
       → Size (filled numbers)
@@ -51,7 +51,7 @@ size (filled numbers) t =
     or-cases (eqb (length numbers) 24) (eqb (length numbers) 25) t
     (λ short.
     let long : length (words numbers) ≡ 48 = omega (arith, length-words numbers, eqb→eq (length numbers) 24 short) in
-    some numbers (rw long) (omega arith) (omega arith))
+    some {numbers = numbers} (rw long) (omega arith) (omega arith))
     (λ more.
     let long : length (words numbers) ≡ 50 = omega (arith, length-words numbers, eqb→eq (length numbers) 25 more) in
-    some numbers (rw long) (omega arith) (omega arith))
+    some {numbers = numbers} (rw long) (omega arith) (omega arith))

@@ -3,3 +3,9 @@ pub mod Search
 pub mod Lengths
 pub mod Given
 pub mod Rows
+pub mod Written
+pub mod Read
+pub mod Inverse
+pub mod Made
+-- Of the promises themselves.
+pub mod OneReply

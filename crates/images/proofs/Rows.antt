@@ -62,3 +62,15 @@ all-passed place (b ∷ blocks) later none =
     let now = passed (otherLength b) (place + 1) (verdict (lengthRows (place + 1 + 1) blocks later)) none in
     let rest = all-passed (place + 1) blocks later (now .1) in
     (one-first b blocks (now .0) (rest .0), rest .1)
+
+-- and the other way round
+pub none-refused :
+    (place : ℕ) (blocks : List Block) (later : List Row)
+    → EachAllowed blocks
+    → verdict later .number ≡ 0
+    → verdict (lengthRows place blocks later) .number ≡ 0
+unfolding lengthRows
+none-refused place [] later each none = none
+none-refused place (b ∷ blocks) later each none =
+    let first : otherLength b ≡ false = each 0 (omega arith) in
+    rw first (none-refused (place + 1) blocks later (λ k inside. each (suc k) (omega arith)) none)

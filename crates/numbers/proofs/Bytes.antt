@@ -4,8 +4,12 @@ use mathlib.Core.List.{List, [], _∷_, _++_}
 use Prim.Native.Nat.{ℕ, zero, suc, _+_, _*_, _/_, _%_, _≤_, _<_}
 use native.Mathlib.Nat.{div-add-mod'}
 use native.Mathlib.Omega.{arith}
-use lib.ListN.{length, getD, take, drop}
+use lib.Dec.{ltb, ltb→lt}
+use lib.ListN.{length, getD, take, drop, length-take, List·getD-eq-default}
 use lib.Seq.{take-suc, getD-take, getD-drop}
+use lib.Ieee.Bits.{is-false}
+use borrow.Author.Tests.{ltb-false}
+use Rattle.numbers.proofs.Tests.{decide}
 use Rattle.numbers.specs.Bytes.{byte, number, numbers, word, words}
 
 pub length-numbers : (count at : ℕ) (bytes : List ℕ) → length (numbers count at bytes) ≡ count
@@ -77,6 +81,17 @@ numbers-words (n ∷ list) more =
 -- each number of the list is a byte
 abbrev pub Bytes : List ℕ → Type 0
 Bytes bytes = (i : ℕ) → byte i bytes < 256
+
+-- so is each of a part of them
+pub bytes-take : (n : ℕ) (bytes : List ℕ) → Bytes bytes → Bytes (take n bytes)
+bytes-take n bytes small i =
+    decide (ltb i n) (λ inside. rw (getD-take n bytes i 0 (ltb→lt i n inside)) (small i))
+    (λ past.
+    let none : length (take n bytes) ≤ i = omega (arith, length-take n bytes, ltb-false i n (is-false (ltb i n) past)) in
+    rw (List·getD-eq-default (take n bytes) 0 none) (omega arith))
+
+pub bytes-drop : (n : ℕ) (bytes : List ℕ) → Bytes bytes → Bytes (drop n bytes)
+bytes-drop n bytes small i = rw getD-drop (small (n + i))
 
 -- and reading, then writing
 pub words-numbers : (count : ℕ) (bytes : List ℕ) → length bytes ≡ 2 * count → Bytes bytes → words (numbers count 0 bytes) ≡ bytes

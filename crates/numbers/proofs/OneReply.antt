@@ -14,3 +14,12 @@ absolute κs given r s p q = same (p ∙⁻¹ q) refl
 
 pub limited : OneReply promises.limited.ended promises.limited.Reads.Post
 limited κs given r s p q = same (p ∙⁻¹ q) refl
+
+pub byte-at : OneReply promises.byte_at.ended promises.byte_at.Reads.Post
+byte-at κs given r s p q = same (p ∙⁻¹ q) refl
+
+pub number-at : OneReply promises.number_at.ended promises.number_at.Reads.Post
+number-at κs given r s p q = same (p ∙⁻¹ q) refl
+
+pub word-of : OneReply promises.word_of.ended promises.word_of.Reads.Post
+word-of κs given r s p q = same (p ∙⁻¹ q) refl

@@ -67,14 +67,14 @@ module _ (c : tie.Then1) where
   there : start .args .at < length (now (start .args .input))
   there = inside (now (start .args .input)) (start .args .at) is-n
 
-module _ (c : tie.After-byte2) where
+module _ (c : tie.After-byte-at2) where
   abbrev input : List ℕ
   input = now (start (c .before) .args .input)
 
   abbrev at : ℕ
   at = start (c .before) .args .at
 
-  count-is : getD (drop at input) 1 0 ≡ c .byte2 .result
+  count-is : getD (drop at input) 1 0 ≡ c .byte-at2 .result
   count-is = getD-drop at input 1 0 ∙ sym (c .byte-at2 .ensures)
 
 returns : tie.Need-returns
