@@ -44,6 +44,15 @@ behind-passed (r ∷ rows) later t e =
     let first = first-passed (r .holds) (told r) (verdict rows) (ltb→lt 0 (r .number) some) e in
     rw (is-false (r .holds) (first .0)) (behind-passed rows later others (first .1))
 
+pub both-passed : (rows later : List Row) → T (numbered rows) → verdict (rows ++ later) .number ≡ 0
+    → (verdict rows .number ≡ 0) × (verdict later .number ≡ 0)
+both-passed [] later t e = (refl, e)
+both-passed (r ∷ rows) later t e =
+    let (some, others) = and-yes (ltb 0 (r .number)) (numbered rows) t in
+    let first = first-passed (r .holds) (told r) (verdict (rows ++ later)) (ltb→lt 0 (r .number) some) e in
+    let rest = both-passed rows later others (first .1) in
+    (rw (is-false (r .holds) (first .0)) (rest .0), rest .1)
+
 pub before-later : (rows later : List Row) → (verdict rows .number ≡ 0 → ⊥) → verdict (rows ++ later) ≡ verdict rows
 before-later [] later given = absurd (given refl)
 before-later (r ∷ rows) later given =
