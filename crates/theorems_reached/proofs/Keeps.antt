@@ -118,7 +118,7 @@ load-keeps d numbers r =
     r
 
 -- what a refused block load leaves: in IDLE flag 12 may stand in it
-marked-reached : (d : Drive) → Reached d → T (is 0 (d .state)) → Reached (marked d)
+pub marked-reached : (d : Drive) → Reached d → T (is 0 (d .state)) → Reached (marked d)
 marked-reached d r idle = ⊎-elim (λ is. rw is reached-marked) (λ is. rw is reached-marked) (r .idle idle)
 
 pub left-reached : (d : Drive) (image : List ℕ) (block : ℕ) → Reached d → Reached (leftByBlock d image block)

@@ -2,9 +2,9 @@
 use mathlib.Core.Path.{_≡_, refl}
 use mathlib.Core.Bool.{Bool, true, false, _&&_, not, cond}
 use mathlib.Core.List.{List, [], _∷_, _++_}
-use Prim.Native.Nat.{_<_}
+use Prim.Native.Nat.{ℕ, _<_}
 use native.Mathlib.Omega.{arith}
-use lib.Dec.{T, ltb, ltb→lt}
+use lib.Dec.{T, eqb, eqb→eq, ltb, ltb→lt}
 use lib.Ieee.Bits.{is-true, is-false}
 use mir.Facts.{and-yes}
 use Rattle.numbers.proofs.Tests.{decide}
@@ -60,3 +60,17 @@ before-later (r ∷ rows) later given =
     (λ fails.
     let none : r .holds ≡ false = is-false (r .holds) fails in
     rw none (before-later rows later (λ zero. given (rw none zero))))
+
+-- where every row has this number, so has a refusal
+abbrev pub only : ℕ → List Row → Bool
+only n [] = true
+only n (r ∷ rows) = eqb (r .number) n && only n rows
+
+pub one-number : (n : ℕ) (rows : List Row) → T (only n rows) → (verdict rows .number ≡ 0 → ⊥) → verdict rows .number ≡ n
+one-number n [] t given = absurd (given refl)
+one-number n (r ∷ rows) t given =
+    let (this, others) = and-yes (eqb (r .number) n) (only n rows) t in
+    decide (r .holds) (λ holds. rw (is-true (r .holds) holds) (eqb→eq (r .number) n this))
+    (λ fails.
+    let none : r .holds ≡ false = is-false (r .holds) fails in
+    rw none (one-number n rows others (λ zero. given (rw none zero))))
