@@ -172,6 +172,7 @@ impl BenchReached {
         match record {
             BenchRecord::Numbers(numbers) => self.numbers(numbers, before, answer),
             BenchRecord::AsInShiftline(record) => self.as_in_shiftline(record, before, answer),
+            BenchRecord::Block { .. } => {}
         }
         if answer.place > 0 {
             self.count(match record {

@@ -1,5 +1,5 @@
 //! An independent model of the drive supervisor that document 01 defines,
-//! with the requests of document 02 that have landed (M-101).
+//! with the requests of document 02 that have landed (M-101, M-102).
 //!
 //! It was written from these (with the readings of `readings.md` and
 //! `readings-requests.md`) and from nothing else, so that it can be compared,
@@ -19,10 +19,13 @@
 //! * `tick_fields` the fields of a tick: ranges, command, target,
 //! * `tick`      the tick call: move, speed reference,
 //! * `causes`    the causes that set flags,
+//! * `image`     parameter images: reader, writer, analog choice,
+//! * `block_load` the block load call,
 //! * `line`      the report line call,
 //! * `record`    records of the program,
 //! * `program`   the program itself,
-//! * `benchline` the bench program of the page on bench formats.
+//! * `input`     what the bench programs take from their input,
+//! * `benchline` and `blockline` the programs of the page on bench formats.
 //!
 //! The rest is for the comparison: `random` and `generator` make streams,
 //! `reached` counts what a stream reaches; `bench_stream` does both for
@@ -30,6 +33,8 @@
 
 pub mod bench_stream;
 pub mod benchline;
+pub mod block_load;
+pub mod blockline;
 pub mod causes;
 pub mod cycle;
 pub mod drive;
@@ -37,6 +42,8 @@ pub mod fields;
 pub mod flag;
 pub mod generator;
 pub mod hall;
+pub mod image;
+pub mod input;
 pub mod line;
 pub mod load;
 pub mod program;
