@@ -124,7 +124,7 @@ fn bodies(image: &[u8]) -> Option<Vec<Option<&[u8]>>> {
             // "An empty entry is all zeros"
             0 if offset == 0 && length == 0 => None,
             // "24 or 25 numbers"; "offsets count from the image's first byte"
-            1 if BODY_COUNTS.contains(&(length / 2)) && length % 2 == 0 && offset == end => {
+            1 if is_body_length(length) && offset == end => {
                 end += length;
                 Some(image.get(offset..end)?)
             }
@@ -133,6 +133,11 @@ fn bodies(image: &[u8]) -> Option<Vec<Option<&[u8]>>> {
     }
     // "and nothing else follows"
     (end == image.len()).then_some(bodies)
+}
+
+/// Whether so many bytes are "24 or 25 numbers", of two bytes each.
+fn is_body_length(length: usize) -> bool {
+    BODY_COUNTS.iter().any(|count| length == 2 * count)
 }
 
 /// A number of two bytes, "high byte first".
