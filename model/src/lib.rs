@@ -28,21 +28,31 @@
 //! * `benchline` and `blockline` the programs of the page on bench formats.
 //!
 //! The rest is for the comparison: `random` and `generator` make streams,
-//! `reached` counts what a stream reaches; `bench_stream` does both for
-//! `benchline`, and `written_stream` is what the programs that write one share.
+//! `reached` counts what a stream reaches; `bench_stream` and `bench_reached`
+//! do so for `benchline`, `block_stream` and `block_reached` for `blockline`.
+//! `sketch` draws the images of both, damaged ones too, `damage` tells what is
+//! wrong with one, `image_rows` what is counted of it; `counts` holds names
+//! against a list, and `written_stream` is what the programs that write a
+//! stream share.
 
+pub mod bench_reached;
 pub mod bench_stream;
 pub mod benchline;
 pub mod block_load;
+pub mod block_reached;
+pub mod block_stream;
 pub mod blockline;
 pub mod causes;
+pub mod counts;
 pub mod cycle;
+pub mod damage;
 pub mod drive;
 pub mod fields;
 pub mod flag;
 pub mod generator;
 pub mod hall;
 pub mod image;
+pub mod image_rows;
 pub mod input;
 pub mod line;
 pub mod load;
@@ -51,6 +61,7 @@ pub mod random;
 pub mod reached;
 pub mod record;
 pub mod settings;
+pub mod sketch;
 pub mod state;
 pub mod tick;
 pub mod tick_fields;

@@ -14,6 +14,8 @@ from . import Files
 
 SEED, RECORDS = 1700, 3000
 TOO_SLOW = {14}
+# A block load alone sets it, and no record of shiftline is one: M-102.
+NOT_HERE = {12}
 
 
 def room() -> int:
@@ -46,7 +48,7 @@ def lacks(records: bytes) -> Optional[str]:
     if len(records) > room():
         return f"{len(records)} bytes of records, and the program reads {room()}"
     shown = [report for report in map(line_form.read, model.lines(records).decode().splitlines()) if report]
-    lacking = missing(shown, set(line_form.STATES), set(line_form.BITS) - TOO_SLOW)
+    lacking = missing(shown, set(line_form.STATES), set(line_form.BITS) - TOO_SLOW - NOT_HERE)
     if lacking:
         return f"no line shows {', '.join(lacking)}"
     lacking = missing(list(with_two_sensors(records, shown)), set(line_form.STATES) - {"IDLE"}, {15})
