@@ -1,8 +1,8 @@
 """What the program generated reads and must print: records by the model's generator, and their lines by the independent model.
 
-The seed is one whose 3,000 records reach each of the ten states and every flag but 14, which takes 4,096 cycles without a step, and with
-two Hall sensors the nine states that a loaded drive has, and flag 15. A changed rule may change what the generator draws: where the seed no
-longer serves, the first one that does is told."""
+The seed is one whose 3,000 records reach each of the ten states and every flag but 14, which takes 4,096 cycles without a step, and 12,
+which takes a block load, and with two Hall sensors the nine states that a loaded drive has, and flag 15. A changed rule may change what the
+generator draws: where the seed no longer serves, the first one that does is told."""
 
 import re
 from itertools import count
