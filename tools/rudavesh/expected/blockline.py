@@ -21,12 +21,12 @@ def body(block: int, count: int) -> List[int]:
 
 
 def shown(*values: int) -> str:
-    """ "decimal numbers .. separated by single spaces" """
+    """A line: "decimal numbers .. separated by single spaces"."""
     return " ".join(map(str, values))
 
 
 def reading(block: int, content: bytes, *values: int) -> Case:
-    """ "R | block (1 byte), length (..), so many bytes | number, place, then the numbers of the body that the reader gave back" """
+    """Of the table: "R | block (1 byte), length (..), so many bytes | number, place, then the numbers of the body .."."""
     return Case(b"R" + bytes([block]) + len(content).to_bytes(2, "big") + content, shown(*values))
 
 
@@ -51,7 +51,7 @@ def readings() -> Iterator[Case]:
             yield reading(block, content, *([0, 0, *bodies[block]] if block in bodies else [9, 0]))
         for block in (15, 16, 255):
             yield reading(block, content, 8, 0)
-    # "what a body holds: any numbers": the reader tests no setting
+    # A body holds any numbers: the reader tests no setting.
     for number in (0, 65535):
         yield reading(6, image({6: [number] * 25}), 0, 0, *[number] * 25)
     # 7 before 8 and 9, and whether the damaged entry is asked for or another: 2 and 9 are filled, 0 is empty.
@@ -62,12 +62,12 @@ def readings() -> Iterator[Case]:
 
 
 def choosing(count: int, *values: int) -> Case:
-    """ "A | count | number, place, block" """
+    """Of the table: "A | count | number, place, block"."""
     return Case(b"A" + count.to_bytes(2, "big"), shown(*values))
 
 
 def choices() -> Iterator[Case]:
-    """ "floor(count x 15 / 4096)": block k begins at the first count that is 4096 k fifteenths at least."""
+    """By "floor(count x 15 / 4096)" block k begins at the first count that is 4096 k fifteenths at least."""
     begins = [next(count for count in range(4096) if 15 * count >= 4096 * block) for block in range(BLOCKS)]
     for block, (begin, end) in enumerate(zip(begins, [*begins[1:], 4096])):
         for count in (begin, begin + 1, (begin + end) // 2, end - 1):
@@ -85,7 +85,7 @@ class Block(NamedTuple):
 
     @property
     def packed(self) -> bytes:
-        """ "0 empty or 1 filled .., count (1 byte), the first 25 at most of so many numbers" """
+        """In a record: "0 empty or 1 filled .., count (1 byte), the first 25 at most of so many numbers"."""
         return bytes([self.mark, len(self.numbers) if self.count is None else self.count]) + in_bytes(self.numbers)
 
 
@@ -93,8 +93,8 @@ NOTHING = Block(EMPTY, [])
 
 
 def writing(blocks: Mapping[int, Block], lent: int, held: int, number: int, place: int, content: bytes = b"") -> Case:
-    """ "W | how many bytes are lent, what they hold (1 byte), then for each of the 15 blocks .. | number, place, length of the image, then
-    every lent byte": those behind the image stand, and where it is refused all of them."""
+    """Of the table: "W | how many bytes are lent .., what they hold (1 byte), then for each of the 15 .. blocks .. | number, place, length of
+    the image, then every lent byte". Those behind the image stand, and where it is refused all of them."""
     packed = b"".join(blocks.get(block, NOTHING).packed for block in range(BLOCKS))
     after = content + bytes([held]) * (lent - len(content))
     return Case(b"W" + lent.to_bytes(2, "big") + bytes([held]) + packed, shown(number, place, len(content), *after))
@@ -120,7 +120,7 @@ def writings() -> Iterator[Case]:
 
 
 def other_lengths() -> Iterator[Case]:
-    """ "a body of another length is 2 at block + 1": the first such block, and before 5 wherever it stands."""
+    """What "a body of another length is 2 at block + 1" says: the first such block, and before 5 wherever it stands."""
     good = {0: Block(FILLED, body(0, 24)), 13: Block(FILLED, body(13, 25))}
     for count in (0, 1, 23, 26, 48, 50, 200, 255):
         bad = Block(FILLED, body(count % 16, min(count, 25)), count)

@@ -1,5 +1,5 @@
-"""Images of parameter blocks, typed by the sentences of M-102 of document 02, and images that break each of these. What a reader must answer
-is known by how an image was made: each of DAMAGED is malformed."""
+"""Images of parameter blocks, typed by the sentences of M-102 of document 02, and images that break each of these. What a reader must
+answer is known by how an image was made: each that `damaged` gives is malformed."""
 
 import struct
 from typing import Dict, Mapping, Sequence
@@ -15,17 +15,22 @@ def in_bytes(numbers: Sequence[int]) -> bytes:
 
 
 def entry(kind: int, offset: int, length: int) -> bytes:
-    """ "kind (0 empty, 1 filled; one byte), then offset and length in bytes, two bytes each, high first" """
+    """An entry: "kind (0 empty, 1 filled; one byte), then offset and length in bytes, two bytes each, high first"."""
     return struct.pack(">BHH", kind, offset, length)
 
 
+def low_first(kind: int, offset: int, length: int) -> bytes:
+    """The same with each low byte first, which is wrong."""
+    return struct.pack("<BHH", kind, offset, length)
+
+
 def drawn(entries: Mapping[int, bytes], behind: bytes, count: int = BLOCKS) -> bytes:
-    """ "First come 15 entries": these, "An empty entry is all zeros", and what stands behind them."""
+    """An image by its entries, the others empty ("An empty entry is all zeros"), and what stands behind them."""
     return b"".join(entries.get(block, bytes(5)) for block in range(count)) + behind
 
 
 def image(bodies: Mapping[int, Sequence[int]]) -> bytes:
-    """ "The bodies follow in block order without gaps", "offsets count from the image's first byte"."""
+    """A well-formed image: "The bodies follow in block order without gaps", "offsets count from the image's first byte"."""
     entries: Dict[int, bytes] = {}
     behind = b""
     for block in sorted(bodies):
@@ -78,7 +83,7 @@ def damaged(early: Sequence[int], late: Sequence[int]) -> Dict[str, bytes]:
         "a body shared by two entries": drawn({2: at_2, 9: at_2}, first),
         "a body that begins in the one before": drawn({2: at_2, 9: entry(FILLED, 121, 50)}, first + second[2:]),
         "offsets from the first body's byte": drawn({2: entry(FILLED, 0, 48), 9: entry(FILLED, 48, 50)}, first + second),
-        "offsets and lengths low byte first": drawn({2: struct.pack("<BHH", FILLED, 75, 48), 9: struct.pack("<BHH", FILLED, 123, 50)}, first + second),
+        "offsets and lengths low byte first": drawn({2: low_first(FILLED, 75, 48), 9: low_first(FILLED, 123, 50)}, first + second),
         "lengths in numbers": drawn({2: entry(FILLED, 75, 24), 9: entry(FILLED, 123, 25)}, first + second),
         "an offset of 65535": with_entry(9, entry(FILLED, 65535, 50)),
     }  # fmt: skip
