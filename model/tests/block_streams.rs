@@ -5,7 +5,7 @@ use model::block_reached::BlockReached;
 use model::block_stream::block_stream;
 use model::blockline::{read_block_head, run, BlockHead, BlockRecord};
 use model::damage::wrong;
-use model::image::read_block;
+use model::image::{numbers_of, read_block, write_image, Block};
 
 /// The records of a stream before its end or its bad record.
 fn records(stream: &[u8]) -> Vec<BlockRecord> {
@@ -51,6 +51,36 @@ fn malformed_is_what_has_something_wrong() {
         }
     }
     assert!(judged.into_iter().all(|count| count > 1_000), "{judged:?}");
+}
+
+/// The blocks of a well-formed image, as the writer is handed them.
+fn blocks_of(image: &[u8]) -> [Block; 15] {
+    std::array::from_fn(|block| match read_block(image, block) {
+        found if found.number == 9 => Block::EMPTY,
+        found => Block::of(&numbers_of(found.part)),
+    })
+}
+
+/// "Writing then reading returns each block, and two images with equal blocks
+/// are equal": of the blocks that are read from an image, which the writer did
+/// not make, the writer makes that image again.
+#[test]
+fn reading_then_writing() {
+    let mut written_again = 0;
+    for record in records(&block_stream(3, 2_000)) {
+        let BlockRecord::Read { image, .. } = record else {
+            continue;
+        };
+        if read_block(&image, 0).number == 7 {
+            continue;
+        }
+        let mut bytes = vec![170; image.len() + 3];
+        let written = write_image(&blocks_of(&image), &mut bytes);
+        assert_eq!((written.number, written.length), (0, image.len()));
+        assert_eq!(bytes, [image.as_slice(), &[170; 3]].concat());
+        written_again += 1;
+    }
+    assert!(written_again > 200, "{written_again}");
 }
 
 #[test]

@@ -93,8 +93,8 @@ NOTHING = Block(EMPTY, [])
 
 
 def writing(blocks: Mapping[int, Block], lent: int, held: int, number: int, place: int, content: bytes = b"") -> Case:
-    """Of the table: "W | how many bytes are lent .., what they hold (1 byte), then for each of the 15 .. blocks .. | number, place, length of
-    the image, then every lent byte". Those behind the image stand, and where it is refused all of them."""
+    """Of the table: "W | how many bytes are lent .., what they hold (1 byte), then for each of the 15 .. blocks .. | number, place, length
+    of the image, then every lent byte". Those behind the image stand, and where it is refused all of them."""
     packed = b"".join(blocks.get(block, NOTHING).packed for block in range(BLOCKS))
     after = content + bytes([held]) * (lent - len(content))
     return Case(b"W" + lent.to_bytes(2, "big") + bytes([held]) + packed, shown(number, place, len(content), *after))
