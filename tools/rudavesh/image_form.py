@@ -47,6 +47,10 @@ def entry_of(image: bytes, block: int) -> Entry:
     return Entry(*ENTRY.unpack_from(image, block * ENTRY.size))
 
 
+def bytes_that(count: int, one: str, many: str) -> str:
+    return f"1 byte {one}" if count == 1 else f"{count} bytes {many}"
+
+
 def wrong_offset(entries: List[Entry], block: int, wanted: int) -> str:
     """What is wrong with an offset that is not where the body has to begin."""
     said = entries[block].offset
@@ -56,8 +60,9 @@ def wrong_offset(entries: List[Entry], block: int, wanted: int) -> str:
     if said < wanted:
         return f"{words}: it overlaps the body of a block before it"
     later = [other for other in range(block + 1, BLOCKS) if entries[other].kind == 1 and entries[other].offset == wanted]
-    return words + (f": the body of block {later[0]} is there, and bodies stand in the order of the blocks" if later
-                    else f": {said - wanted} bytes before it belong to no block")  # fmt: skip
+    if later:
+        return f"{words}: the body of block {later[0]} is there, and bodies stand in the order of the blocks"
+    return f"{words}: {bytes_that(said - wanted, 'before it belongs', 'before it belong')} to no block"
 
 
 def broken(image: bytes) -> Optional[Broken]:
@@ -84,8 +89,7 @@ def broken(image: bytes) -> Optional[Broken]:
         ends.append((block, end))
     if len(image) < end:
         cut = next(block for block, its_end in ends if len(image) < its_end)
-        return Broken(len(image), cut, f"the image ends in its body: {end - len(image)} bytes are missing")
+        return Broken(len(image), cut, f"the image ends in its body: {bytes_that(end - len(image), 'is missing', 'are missing')}")
     if len(image) > end:
-        many = len(image) - end
-        return Broken(end, None, f"the last body ends before it, and {many} {'byte follows' if many == 1 else 'bytes follow'}")
+        return Broken(end, None, f"the last body ends before it, and {bytes_that(len(image) - end, 'follows', 'follow')}")
     return None

@@ -3,11 +3,12 @@
 import argparse
 import sys
 from pathlib import Path
+from typing import List
 
 from .arguments import parser_of
 from .record_form import KINDS, LOAD, LOAD_WITH_SENSORS, TICK
-from .records_text import BLOCK, BLOCK_LETTER, read_text, write_text
-from .text_file import UTF16, is_utf16
+from .records_text import BLOCK, BLOCK_LETTER, Error, read_text, write_text
+from .text_file import UTF16, is_utf16, printable
 
 MOST_ERRORS_SHOWN = 20
 # What people read of it in --help.
@@ -56,6 +57,12 @@ def arguments() -> argparse.ArgumentParser:
     return parser
 
 
+def tell_errors(name: str, errors: List[Error]) -> None:
+    """Tells the first errors of a text, a line for each."""
+    for number, column, message in errors[:MOST_ERRORS_SHOWN]:
+        print(f"{printable(name)}:{number}:{column}: {printable(message)}", file=sys.stderr)
+
+
 def main() -> int:
     parser = arguments()
     given = parser.parse_args()
@@ -74,8 +81,7 @@ def main() -> int:
         return 2
     # A comment may hold any bytes; elsewhere a replaced byte becomes an unknown word.
     whole, errors = read_text(content.decode("utf-8-sig", errors="replace"), Path(name).parent)
-    for number, column, message in errors[:MOST_ERRORS_SHOWN]:
-        print(f"{name}:{number}:{column}: {message}", file=sys.stderr)
+    tell_errors(name, errors)
     if errors:
         return 1
     write_text(whole, sys.stdout.buffer)

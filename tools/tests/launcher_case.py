@@ -64,7 +64,7 @@ class Case(unittest.TestCase):
         self.room = Path(folder.name)
         self.root, self.kit, self.calls, self.hold = (self.room / name for name in ("a tree", "a kit", "calls", "hold"))
         shutil.copytree(TOOLS, self.root / "tools", ignore=shutil.ignore_patterns("tests", "__pycache__"))
-        for name in ("shiftline", "benchline", "why", "blockline"):
+        for name in ("shiftline", "benchline", "why", "blockline", "image"):
             shutil.copy(ROOT / name, self.root / name)
         write(self.root, FILES)
         # The gate gives its tests what rt leaves of the processors: a build that waits for them must not say so here.

@@ -30,8 +30,9 @@ class Arguments(Case):
         self.assertEqual(self.asked(), [])
 
     def test_surplus_arguments_and_unknown_options(self):
-        for name, arguments in (("shiftline", "a b"), ("benchline", "a b"), ("blockline", "a b"), ("why", "a b c"), ("why", "- -"), ("shiftline", "--nonsense"),
-                                ("shiftline", "-x"), ("blockline", "-x"), ("tools/run", ""), ("tools/run", "shiftline b"), ("tools/run", "-x")):  # fmt: skip
+        for name, arguments in (("shiftline", "a b"), ("benchline", "a b"), ("blockline", "a b"), ("why", "a b c"), ("why", "- -"),
+                                ("shiftline", "--nonsense"), ("shiftline", "-x"), ("blockline", "-x"), ("tools/run", ""),
+                                ("tools/run", "shiftline b"), ("tools/run", "-x")):  # fmt: skip
             done = self.run_it(name, *arguments.split())
             self.assertEqual((done.returncode, done.stdout), (2, b""), (name, arguments))
             self.assertIn(f"usage: {name}", done.stderr.decode())
