@@ -50,7 +50,7 @@ MALFORMED = [
      "and has to begin at byte 123: the body of block 9 is there, and bodies stand in the order of the blocks"),
     (with_bytes(8, 0, 50), "byte 16, block 3: its body is said to begin at byte 123, and has to begin at byte 125"),
     (GOOD[:-1], "byte 220, block 9: the image ends in its body: 1 byte is missing"),
-    (GOOD[:130], "byte 130, block 3: the image ends in its body: 91 byte is missing"),
+    (GOOD[:130], "byte 130, block 3: the image ends in its body: 91 bytes are missing"),
     (GOOD[:75], "byte 75, block 1: the image ends in its body: 146 bytes are missing"),
     (GOOD + b"\n", "byte 221: the last body ends before it, and 1 byte follows"),
     (GOOD + bytes(1827), "byte 221: the last body ends before it, and 1827 bytes follow"),
