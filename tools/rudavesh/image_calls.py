@@ -35,10 +35,16 @@ class Answer(NamedTuple):
 def answers(word: str, records: List[bytes]) -> List[Answer]:
     """What a proved program of the root answers to records, one line to each."""
     # By its launcher, which proves and builds it where that is to be done, and names itself in what it says.
-    done = subprocess.run([ROOT / word, "-"], input=b"".join(records), stdout=subprocess.PIPE, check=False)
-    if done.returncode:
-        raise Ended(done.returncode)
-    lines = done.stdout.decode("ascii", errors="replace").splitlines()
+    with subprocess.Popen([ROOT / word, "-"], stdin=subprocess.PIPE, stdout=subprocess.PIPE) as process:
+        try:
+            printed, _ = process.communicate(b"".join(records))
+        except KeyboardInterrupt:
+            # It reaches the launcher, too, which ends what it is building. That is waited for.
+            process.wait()
+            raise
+    if process.returncode:
+        raise Ended(process.returncode)
+    lines = printed.decode("ascii", errors="replace").splitlines()
     try:
         found = [list(map(int, line.split(" "))) for line in lines]
         answered = [Answer(number, place, rest) for number, place, *rest in found]

@@ -7,6 +7,7 @@ import re
 import shutil
 import subprocess
 import tempfile
+import time
 import unittest
 from pathlib import Path
 from typing import Dict, List
@@ -55,6 +56,14 @@ def write(folder: Path, files: Dict[str, str]) -> None:
         file.write_text(text)
         if text.startswith("#!"):
             file.chmod(0o755)
+
+
+def wait_for(file: Path) -> None:
+    until = time.monotonic() + TIMEOUT
+    while not file.exists():
+        if time.monotonic() > until:
+            raise TimeoutError(file)
+        time.sleep(0.02)
 
 
 class Case(unittest.TestCase):

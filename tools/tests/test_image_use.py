@@ -4,13 +4,17 @@ import os
 import re
 import resource
 import shutil
+import signal
 import unittest
 from pathlib import Path
 
 from rudavesh import image_form
 
 from . import stand_in
+from .commands import TIMEOUT
 from .image_case import Case
+from .image_case import stand_in as stand_in_script
+from .launcher_case import wait_for
 from .paper import PAPER_LOAD, image
 
 GOOD = image({1: PAPER_LOAD, 3: [*PAPER_LOAD, 2], 9: PAPER_LOAD})
@@ -220,6 +224,22 @@ class Programs(Case):
         self.assertIn("blockline: program_blockline is not proved, so it is not run", done.stderr.decode())
         (self.root / "crates/program_blockline/src/main.rt").unlink()
         self.told(self.image("choose", 5), 2, "blockline: there is no program blockline in this tree")
+
+    def test_an_interrupt_ends_the_build_below_and_breaks_nothing(self):
+        (self.root / "crates/program_blockline/src/main.rt").write_text(stand_in_script("blockline") + "# changed\n")
+        self.hold.touch()
+        heard = lambda: signal.signal(signal.SIGINT, signal.SIG_DFL)  # noqa: E731
+        process = self.start("image", "choose", 4095, start_new_session=True, preexec_fn=heard)
+        wait_for(self.calls)
+        os.killpg(process.pid, signal.SIGINT)
+        said = process.communicate(timeout=TIMEOUT)[1].decode()
+        self.assertEqual(process.returncode, 130, said)
+        self.assertIn("blockline: interrupted", said)
+        self.assertNotIn("Traceback", said)
+        self.hold.unlink()
+        done = self.image("choose", 4095)
+        self.assertEqual((done.returncode, done.stdout), (0, b"14\n"))
+        self.assertNotIn("waiting", done.stderr.decode())
 
     def test_where_benchline_fails_nothing_is_made(self):
         (self.root / "crates/program_benchline/src/main.rt").unlink()
