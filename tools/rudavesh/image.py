@@ -3,6 +3,7 @@ is in them; here settings are turned into text and back, and what is wrong is pu
 
 import argparse
 import os
+import re
 import secrets
 import shutil
 import sys
@@ -110,12 +111,17 @@ def text_of(name: str) -> str:
     except AttributeError as error:
         raise Told(2, "standard input is closed.") from error
     except OSError as error:
-        raise Told(2, f"{name}: {error.strerror}") from error
+        raise Told(2, f"{called(name)}: {error.strerror}") from error
     if is_utf16(content):
-        raise Told(2, f"{name} {UTF16}")
+        raise Told(2, f"{called(name)} {UTF16}")
     if b"\0" in content:
-        raise Told(1, f"{name} is no text: there are zero bytes in it.")
+        raise Told(1, f"{called(name)} is no text: there are zero bytes in it.")
     return content.decode("utf-8-sig", errors="replace")
+
+
+def called(name: str) -> str:
+    """What messages call a file of settings."""
+    return "<stdin>" if name == STANDARD_INPUT else name
 
 
 def read_files(files: Dict[int, str]) -> Optional[Dict[int, Settings]]:
@@ -123,7 +129,7 @@ def read_files(files: Dict[int, str]) -> Optional[Dict[int, Settings]]:
     read: Dict[int, Settings] = {}
     for block, name in files.items():
         settings, errors = read_settings(text_of(name))
-        tell_errors("<stdin>" if name == STANDARD_INPUT else name, errors)
+        tell_errors(called(name), errors)
         if settings:
             read[block] = settings
     return read if len(read) == len(files) else None
@@ -156,6 +162,10 @@ def put(content: bytes, target: Path, name: str) -> None:
         beside.unlink(missing_ok=True)
 
 
+def same_file(one: str, other: str) -> bool:
+    return os.path.exists(one) and os.path.exists(other) and os.path.samefile(one, other)
+
+
 def make(parser: argparse.ArgumentParser, name: str, given: List[Tuple[int, str]]) -> int:
     files = dict(given)
     blocks = [block for block, _ in given]
@@ -164,6 +174,10 @@ def make(parser: argparse.ArgumentParser, name: str, given: List[Tuple[int, str]
         parser.error(f"block {twice} is given twice")
     if list(files.values()).count(STANDARD_INPUT) > 1:
         parser.error("only one block can come by standard input")
+    if re.match("[0-9]+=", name):
+        parser.error(f"the first word is the image to write, and '{name}' is a block with its settings")
+    if any(same_file(name, file) for file in files.values()):
+        parser.error(f"'{name}' would be replaced by the image, and it is a file of settings")
     target = target_of(name)
     filled = read_files(files)
     if filled is None:
@@ -171,7 +185,7 @@ def make(parser: argparse.ArgumentParser, name: str, given: List[Tuple[int, str]
     image = written_image(filled)
     for block, place in refused_loads(image, sorted(filled)).items():
         if place:
-            print(f"image: warning: block {block} ({printable(files[block])}) will not load: {refusal(filled[block], place)}",
+            print(f"image: warning: block {block} ({printable(called(files[block]))}) will not load: {refusal(filled[block], place)}",
                   file=sys.stderr)  # fmt: skip
     put(image, target, name)
     return 0
@@ -195,8 +209,10 @@ def well_formed(name: str, image: bytes, answered: List[Answer]) -> None:
     """Tells where an image is malformed, if the reader says that it is."""
     said = {answer.number == MALFORMED for answer in answered}
     found = broken(image)
-    if said != {found is not None}:
-        raise Unexpected(f"the reader calls {name} {'malformed' if True in said else 'well formed'}, and these words do not: {found}")
+    if True in said and not found:
+        raise Unexpected(f"the reader calls {name} malformed, number {MALFORMED}, and no rule is found that it breaks.")
+    if found and False in said:
+        raise Unexpected(f"the reader takes {name}, and a rule is found that it breaks: {found}")
     if found:
         raise Told(1, f"{name} is malformed: {found}")
 

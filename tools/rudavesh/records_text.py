@@ -10,7 +10,7 @@ from typing import BinaryIO, Dict, Iterator, List, NamedTuple, Optional, Tuple, 
 from .image_form import MOST_OF_A_RECORD, image_record, read_image
 from .record_form import ALL_KINDS, KINDS, LIMITS, LOAD, LOAD_WITH_SENSORS, Kind
 
-DEEPEST_BLOCK = 16
+DEEPEST_REPEAT = 16
 PIECE = 65536  # bytes of a repeat that are made and written at once
 COUNT = (1, 1_000_000_000, "repeat")
 KIND_OF_WORD = {**{kind.letter.lower(): kind for kind in ALL_KINDS}, **{kind.word: kind for kind in KINDS}}
@@ -159,21 +159,21 @@ def read_step(words: List[Word], end: int, folder: Path) -> Union[Record, bytes]
     raise TextError(first.column, f"'{first.text}' is no record; " + nearest(first.text, known))
 
 
-def read_repeat(repeat: Repeat, words: List[Word], end: int, blocks: List[Repeat], folder: Path) -> None:
+def read_repeat(repeat: Repeat, words: List[Word], end: int, repeats: List[Repeat], folder: Path) -> None:
     opens = "{" in (word.text for word in words)
     if opens:
         # Before its head is judged: a wrong head must not put the blame on its }.
-        blocks.append(repeat)
+        repeats.append(repeat)
     if len(words) < 3:
         raise TextError(end, "repeat needs a count and a record or {, such as: repeat 3 tick")
     repeat.count = read_number(words[1], "count", COUNT)
     if not opens:
         repeat.body.append(read_step(words[2:], end, folder))
-        blocks[-1].body.append(repeat)
+        repeats[-1].body.append(repeat)
     elif words[2].text != "{" or len(words) > 3:
         raise TextError(words[3].column, "write repeat COUNT { and what it repeats from the next line on")
-    elif len(blocks) > DEEPEST_BLOCK + 1:
-        raise TextError(words[0].column, f"repeats nest at most {DEEPEST_BLOCK} deep")
+    elif len(repeats) > DEEPEST_REPEAT + 1:
+        raise TextError(words[0].column, f"repeats nest at most {DEEPEST_REPEAT} deep")
 
 
 def is_load(word: Word) -> bool:
@@ -185,23 +185,23 @@ def goes_on(words: List[Word], body: list) -> bool:
     return "=" in words[0].text and bool(body) and isinstance(body[-1], Record) and body[-1].kind.word == LOAD.word
 
 
-def read_line(number: int, words: List[Word], blocks: List[Repeat], folder: Path) -> None:
+def read_line(number: int, words: List[Word], repeats: List[Repeat], folder: Path) -> None:
     end = words[-1].column + len(words[-1].text)
     if words[0].text.lower() == "repeat":
-        read_repeat(Repeat(number, words[0].column), words, end, blocks, folder)
-    elif goes_on(words, blocks[-1].body):
-        load = blocks[-1].body[-1]
-        blocks[-1].body[-1] = read_named(load.kind, words, load.given)
-    elif words[0].text == "}" and len(blocks) == 1:
+        read_repeat(Repeat(number, words[0].column), words, end, repeats, folder)
+    elif goes_on(words, repeats[-1].body):
+        load = repeats[-1].body[-1]
+        repeats[-1].body[-1] = read_named(load.kind, words, load.given)
+    elif words[0].text == "}" and len(repeats) == 1:
         raise TextError(words[0].column, "this } closes no repeat")
     elif words[0].text == "}":
-        block = blocks.pop()
-        if block.body:
-            blocks[-1].body.append(block)
+        closed = repeats.pop()
+        if closed.body:
+            repeats[-1].body.append(closed)
         if len(words) > 1:
             raise TextError(words[1].column, "nothing may follow }")
     else:
-        blocks[-1].body.append(read_step(words, end, folder))
+        repeats[-1].body.append(read_step(words, end, folder))
 
 
 def lines_of(text: str) -> Iterator[Tuple[int, List[Word]]]:
@@ -214,18 +214,18 @@ def lines_of(text: str) -> Iterator[Tuple[int, List[Word]]]:
 
 
 def read_text(text: str, folder: Path = Path()) -> Tuple[Repeat, List[Error]]:
-    """Give the whole text as a block done once, and its errors. Paths in it begin at the folder."""
-    blocks = [Repeat(0, 0)]  # the whole text, then the blocks that are open
+    """Give the whole text as a repeat done once, and its errors. Paths in it begin at the folder."""
+    repeats = [Repeat(0, 0)]  # the whole text, then the repeats that are open
     errors: List[Error] = []
     for number, words in lines_of(text):
         try:
-            read_line(number, words, blocks, folder)
+            read_line(number, words, repeats, folder)
         except TextError as error:
             errors.append((number, error.column, str(error)))
             if is_load(words[0]):
-                blocks[-1].body.append(Record(LOAD, {}))  # so that the lines that go on with it are not blamed
-    errors += [(block.line, block.column, "this repeat has no closing }") for block in blocks[1:]]
-    return blocks[0], sorted(errors)
+                repeats[-1].body.append(Record(LOAD, {}))  # so that the lines that go on with it are not blamed
+    errors += [(repeat.line, repeat.column, "this repeat has no closing }") for repeat in repeats[1:]]
+    return repeats[0], sorted(errors)
 
 
 def write_body(body: list, kept: Dict[str, List[int]], output: BinaryIO) -> None:

