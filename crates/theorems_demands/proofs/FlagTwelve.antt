@@ -1,29 +1,33 @@
 -- Flag 12 stands in the live word of an answer just where the log of calls and answers says so.
-use Prim.Native.Nat.{ℕ}
+use Prim.Native.Nat.{ℕ, _*_}
+use native.Mathlib.Nat.{zero-add}
 use native.Mathlib.Omega.{arith}
 use mathlib.Core.Bool.{Bool, true, false, not, _&&_, _||_, cond}
 use mathlib.Core.Path.{_≡_, refl, sym, ap, subst, _∙_}
 use mathlib.Core.List.{List, [], _∷_}
-use lib.Dec.{T, eqb, not-T}
+use lib.Dec.{T, eqb, ltb, not-T}
+use lib.IntN.{pos}
 use lib.Ieee.Bits.{is-true, is-false}
 use mir.Facts.{T-not, and-yes}
-use borrow.Author.Tests.{ne-eqb}
+use borrow.Author.Tests.{le-leb, lt-leb, ltb-true, ltb-false}
 use Rattle.numbers.proofs.Tests.{by-test, decide}
 use Rattle.faults.specs.Word.{bit, _or_}
-use Rattle.faults.proofs.Bits.{bit-and}
+use Rattle.faults.proofs.Bits.{bit-or, bit-and}
 use Rattle.states.specs.States.{is}
 use Rattle.settings.specs.Settings.{meant, FaultEnable, RotorLockTime}
 use Rattle.fields.specs.declared.Cycle.{Cycle}
 use Rattle.fields.specs.declared.Tick.{Tick}
-use Rattle.verdicts.specs.Table.{verdict}
+use Rattle.verdicts.specs.Table.{row, verdict}
+use Rattle.numbers.specs.Bytes.{byte}
 use Rattle.verdicts.specs.declared.Verdict.{Verdict}
 use Rattle.verdicts.proofs.Passed.{passed}
 use Rattle.theorems_history.specs.Log.{Entry, stateAfter, log}
 use Rattle.images.specs.Image.{fifteen}
-use Rattle.images.specs.Reads.{isRead}
+use Rattle.images.specs.Table.{wellFormed}
+use Rattle.images.specs.Reads.{foundOf, isRead}
 use Rattle.drive.specs.Answer.{liveWord, answer, reply as replied}
 use Rattle.drive.specs.Refusals.{loadRows, cycleRows, tickRows}
-use Rattle.drive.specs.Flags.{alwaysLive}
+use Rattle.drive.specs.Flags.{alwaysLive, alive}
 use Rattle.drive.specs.Calls.{settle, loaded, cycled}
 use Rattle.drive.specs.Calls
 use Rattle.drive.specs.Blocks.{blockNumbers, blockRows, marked, leftByBlock}
@@ -40,8 +44,7 @@ use Rattle.theorems_reached.specs.Reached.{Reached}
 use Rattle.theorems_reached.proofs.Loads.{at-least}
 use Rattle.theorems_reached.proofs.Keeps.{every-reached, tick-keeps}
 use Rattle.theorems_reached.proofs.Corollaries.{in-idle, no-flag-12-outside-idle}
-use Rattle.theorems_demands.specs.FlagTwelve.{isBlockLoad, isLoad, loads-now, loadedYet, refused-now, lit, FlagTwelve}
-use Rattle.theorems_demands.proofs.Refused.{amended, amended-is-2}
+use Rattle.theorems_demands.specs.FlagTwelve.{isLoad, loads-now, loadedYet, finds, refused-now, lit, FlagTwelve}
 
 abbrev Log : Type 0
 Log = List (Entry Call Answer)
@@ -67,6 +70,25 @@ no-and : (a : Bool) → (a && false) ≡ false
 no-and true = refl
 no-and false = refl
 
+and-yes-and : (a b : Bool) → (a && true && b) ≡ (a && b)
+and-yes-and true b = refl
+and-yes-and false b = refl
+
+-- what the call tells is what the reader says
+finds-read : (image : List ℕ) (block : ℕ) → finds (blockLoads image block) ≡ isRead fifteen image block
+unfolding foundOf
+finds-read image block = by (wellFormed fifteen image) (ltb block 15) refl refl
+  where
+    kind : (filled : Bool) → filled ≡ eqb (verdict (row 9 0 (not filled) ∷ []) .number) 0
+    kind true = refl
+    kind false = refl
+
+    by : (formed inside : Bool) → wellFormed fifteen image ≡ formed → ltb block 15 ≡ inside
+        → finds (blockLoads image block) ≡ isRead fifteen image block
+    by false inside e f = rw e
+    by true false e f = rw (e, f, le-leb 15 block (ltb-false block 15 f))
+    by true true e f = rw (e, f, lt-leb 15 block (ltb-true block 15 f), zero-add (5 * block)) (kind (eqb (byte (5 * block) image) 1))
+
 module _ (d : Drive) (r : Reached d) (log : Log) (told : Told d log) where
   -- an entry that is on the log as nothing
   stays :
@@ -90,7 +112,7 @@ module _ (d : Drive) (r : Reached d) (log : Log) (told : Told d log) where
   loads-told e numbers now = record { asleep = rw now; dark = λ loaded. rw now; shown = λ asleep. absurd (not-both (rw now at asleep)) }
 
   -- a refused call of the three
-  refused : (call : Call) (number at : ℕ) → isBlockLoad call ≡ false → eqb number 0 ≡ false → Told d (made call (answer number at d) ∷ log)
+  refused : (call : Call) (number at : ℕ) → finds call ≡ false → eqb number 0 ≡ false → Told d (made call (answer number at d) ∷ log)
   unfolding answer
   refused call number at plain given =
       stays (made call (answer number at d)) d (rw given (no-and (isLoad call))) (rw plain) refl (λ asleep. refl)
@@ -125,48 +147,34 @@ module _ (d : Drive) (r : Reached d) (log : Log) (told : Told d log) where
     tick-told =
         stays _ (ticked d t) refl refl (awake ∙ sym (is-false (is 0 (d .state)) outside)) (λ asleep. absurd (yet outside asleep))
 
-  -- a refused block load: with flag 12 in IDLE, where it is answered with 2
+  -- a refused block load: with flag 12 in IDLE, where it finds a body
   module _ (image : List ℕ) (block : ℕ) (given : eqb (verdict (blockRows d image block) .number) 0 ≡ false) where
-    abbrev number : ℕ
-    number = verdict (blockRows d image block) .number
-
-    not-0 : number ≡ 0 → ⊥
-    not-0 zero = not-both (rw zero at given)
-
     abbrev entry : (left : Drive) (at : ℕ) → Entry Call Answer
-    entry left at = made (blockLoads image block) (answer number at left)
+    entry left at = made (blockLoads image block) (answer (verdict (blockRows d image block) .number) at left)
+
+    noted : (left : Drive) (at : ℕ) → refused-now (entry left at) log ≡ (isRead fifteen image block && is 0 (d .state))
+    unfolding answer
+    noted left at = rw (given, finds-read image block, ← told .asleep) (and-yes-and (isRead fifteen image block) (is 0 (d .state)))
 
     -- in IDLE, with flag 12
-    with-flag : (at : ℕ) → T (is 0 (d .state)) → number ≡ 2 → Told (marked d) (entry (marked d) at ∷ log)
+    with-flag : (at : ℕ) → T (isRead fifteen image block && is 0 (d .state)) → Told (marked d) (entry (marked d) at ∷ log)
     unfolding answer loadedYet lit
-    with-flag at idle two =
+    with-flag at both =
+        let idle = and-yes (isRead fifteen image block) (is 0 (d .state)) both .1 in
         let here : not (loadedYet log) ≡ true = sym (told .asleep) ∙ is-true (is 0 (d .state)) idle in
+        let now : refused-now (entry (marked d) at) log ≡ true = noted (marked d) at ∙ is-true _ both in
         record {
-          asleep = rw two (told .asleep);
-          dark = λ loaded. absurd (not-both (sym here ∙ rw (rw two at loaded)));
-          shown = λ asleep. rw (two, here) (in-idle d r (λ (e : Drive). bit 12 (marked e .flags) ≡ true) refl refl idle);
+          asleep = rw given (told .asleep);
+          dark = λ loaded. absurd (not-both (sym here ∙ rw (rw given at loaded)));
+          shown = λ asleep. rw (now, given) (in-idle d r (λ (e : Drive). bit 12 (marked e .flags) ≡ true) refl refl idle);
         }
 
-    -- elsewhere as any refused call
-    without : (at : ℕ) → (eqb number 2 && not (loadedYet log)) ≡ false → Told d (entry d at ∷ log)
-    unfolding answer
-    without at other = stays (entry d at) d (rw given) other refl (λ asleep. refl)
-
     block-refused : (at : ℕ) → (let left : Drive = leftByBlock d image block in Told left (entry left at ∷ log))
+    unfolding answer
     block-refused at =
         by-test (λ (left : Drive). Told left (entry left at ∷ log)) (isRead fifteen image block && is 0 (d .state))
-        (λ both.
-        let idle = and-yes (isRead fifteen image block) (is 0 (d .state)) both .1 in
-        with-flag at idle (amended-is-2 d image block idle not-0 .0 both))
-        (λ none.
-        without at
-        (decide (is 0 (d .state))
-        (λ idle.
-        let other = ne-eqb number 2 (λ two. T-not (amended d (blockLoads image block)) (amended-is-2 d image block idle not-0 .1 two) none) in
-        rw other)
-        (λ outside.
-        let loaded : not (loadedYet log) ≡ false = sym (told .asleep) ∙ is-false (is 0 (d .state)) outside in
-        rw loaded (no-and (eqb number 2)))))
+        (with-flag at)
+        (λ none. stays (entry d at) d (rw given) (noted d at ∙ is-false _ none) refl (λ asleep. refl))
 
   after-call : (call : Call) → Told (reply d call .drive) (made call (reply d call .answer) ∷ log)
   unfolding Calls.load Calls.cycle TickCalls.tick Blocks.blockLoad answer
@@ -231,3 +239,52 @@ flag-twelve call earlier =
     let before = stateAfter machine earlier in
     ap (bit 12) (answer-shows before call)
     ∙ live-shows (reply before call .drive) (every-reached (call ∷ earlier)) (log machine (call ∷ earlier)) (all-told (call ∷ earlier))
+
+-- "always live": whatever FaultEnable is
+pub always-live : (settings : List ℕ) (flags : ℕ) → bit 12 (alive settings flags) ≡ bit 12 flags
+always-live settings flags =
+    bit-and 12 flags (alwaysLive or FaultEnable settings)
+    ∙ rw (bit-or 12 alwaysLive (FaultEnable settings)) (and-true (bit 12 flags))
+  where
+    and-true : (a : Bool) → (a && true) ≡ a
+    and-true true = refl
+    and-true false = refl
+
+-- Until a load is accepted each answer is, but for number and place, that of power-up, with flag 12 in its live word where it stands.
+pub idle-shows :
+    (calls : List Call) (number place : ℕ)
+    → loadedYet (log machine calls) ≡ false
+    → answer number place (stateAfter machine calls)
+    ≡ record {
+      number = number;
+      place = place;
+      state = 0;
+      gate = 0;
+      live = cond (lit (log machine calls)) 4096 0;
+      reference = pos 0;
+      position = 0;
+      angle = pos 0;
+      offsets = record { first = 0; second = 0 };
+      retries = 0;
+    }
+unfolding answer
+idle-shows calls number place asleep =
+    let told = all-told calls in
+    let idle : T (is 0 (stateAfter machine calls .state)) = rw (told .asleep, asleep) tt in
+    rw (← told .shown asleep)
+    (in-idle (stateAfter machine calls) (every-reached calls)
+    (λ (d : Drive).
+    answer number place d
+    ≡ record {
+      number = number;
+      place = place;
+      state = 0;
+      gate = 0;
+      live = cond (bit 12 (d .flags)) 4096 0;
+      reference = pos 0;
+      position = 0;
+      angle = pos 0;
+      offsets = record { first = 0; second = 0 };
+      retries = 0;
+    })
+    refl refl idle)

@@ -8,6 +8,7 @@ pub mod Ticks
 pub mod Lawful
 pub mod Clauses
 pub mod Says
+pub mod BlockLoads
 pub mod Refused
 pub mod FlagTwelve
 pub mod Computes

@@ -125,6 +125,33 @@ module _ (d : Drive) (image : List ℕ) (block : ℕ) where
       let told = amended-is-2 idle (λ zero. given (same ∙ zero)) in
       (λ both. same ∙ told .0 both, λ two. told .1 (sym same ∙ two))
 
+-- In a caller's words: a refused call leaves the drive as it is, but for a block load in IDLE that is answered with 2.
+abbrev pub isBlockLoad : Call → Bool
+isBlockLoad (loads numbers) = false
+isBlockLoad (cycles fields) = false
+isBlockLoad (ticks fields) = false
+isBlockLoad (blockLoads image block) = true
+
+pub refused-leaves :
+    (d : Drive) (call : Call)
+    → (reply d call .answer .number ≡ 0 → ⊥)
+    → (isBlockLoad call && is 0 (d .state) && eqb (reply d call .answer .number) 2) ≡ false
+    → reply d call .drive ≡ d
+refused-leaves d (loads numbers) given other = ap (λ (r : Reply). r .drive) (refused-unchanged d (loads numbers) given)
+refused-leaves d (cycles fields) given other = ap (λ (r : Reply). r .drive) (refused-unchanged d (cycles fields) given)
+refused-leaves d (ticks fields) given other = ap (λ (r : Reply). r .drive) (refused-unchanged d (ticks fields) given)
+refused-leaves d (blockLoads image block) given other =
+    ap (λ (r : Reply). r .drive) (refused-unchanged d (blockLoads image block) given)
+    ∙ by-test (λ (left : Drive). left ≡ d) (amended d (blockLoads image block))
+    (λ both.
+    let idle = and-yes (isRead fifteen image block) (is 0 (d .state)) both .1 in
+    let two = amended-answers-2 d image block idle given .0 both in
+    absurd (differs (sym (rw (is-true (is 0 (d .state)) idle, two) at other))))
+    (λ none. refl)
+  where
+    differs : false ≡ true → ⊥
+    differs same = let z : _≡_ {A = ℕ} 0 1 = cc in omega arith
+
 -- a line call that tells another number than 0 leaves each lent byte
 pub refused-line : (a : Answer) (lent : List ℕ) → (lineVerdict a (length lent) .number ≡ 0 → ⊥) → lentAfter a lent ≡ lent
 refused-line a lent given = rw (ne-eqb (lineVerdict a (length lent) .number) 0 given)

@@ -19,11 +19,17 @@ use Rattle.drive.specs.declared.answer.Answer.{Answer}
 use Rattle.drive.specs.declared.answer.Reply.{Reply}
 use Rattle.theorems_reached.specs.Machine.{machineOf}
 use Rattle.theorems_demands.specs.NamedCalls.{settingsWith, loaded}
-use Rattle.theorems_demands.specs.FlagTwelve.{isBlockLoad, isLoad, loadedYet, lit}
+use Rattle.theorems_demands.specs.FlagTwelve.{isLoad, loadedYet, lit}
 use Rattle.theorems_demands.proofs.Computes.{computes}
 
 abbrev Replies : Type 0
 Replies = Drive → Call → Reply
+
+abbrev isBlockLoad : Call → Bool
+isBlockLoad (loads numbers) = false
+isBlockLoad (cycles fields) = false
+isBlockLoad (ticks fields) = false
+isBlockLoad (blockLoads image block) = true
 
 -- the same refusal, with flag 12 or with no flag
 abbrev withFlag : Reply → Reply
@@ -70,6 +76,9 @@ rows =
     (changed (λ d call r. isBlockLoad call && is 0 (d .state) && eqb (r .answer .number) 7) withFlag, malformed ∷ []) ∷
     (changed (λ d call r. isBlockLoad call && is 0 (d .state) && eqb (r .answer .number) 8) withFlag, block 15 ∷ []) ∷
     (changed (λ d call r. isBlockLoad call && is 0 (d .state) && eqb (r .answer .number) 9) withFlag, block 2 ∷ []) ∷
+    -- a number that lies: an empty block answered with 2 and flag 12, a bad body answered with 9 and no flag
+    (changed (λ d call r. is 0 (d .state) && eqb (r .answer .number) 9) (λ r. withFlag (replied 2 0 (r .drive))), block 2 ∷ []) ∷
+    (changed (λ d call r. isBlockLoad call && eqb (r .answer .number) 2) (λ r. withoutFlags (replied 9 0 (r .drive))), block 0 ∷ []) ∷
     -- taken away by a refused load of either kind
     (changed (λ d call r. not (isBlockLoad call) && eqb (r .answer .number) 2) withoutFlags, block 0 ∷ mistyped ∷ []) ∷
     (changed (λ d call r. eqb (r .answer .number) 9) withoutFlags, block 0 ∷ block 2 ∷ []) ∷

@@ -1,22 +1,19 @@
 -- Document 02, M-102, of calls and answers: "A body that it finds and load's own rules refuse in IDLE also sets flag 12, always live, until a
 -- load of either kind is accepted .. The plain load, refused, sets no flag." Whoever reads a log can tell from it when flag 12 stands; the
 -- live word of each answer says the same.
-use Prim.Native.Nat.{ℕ}
+use Prim.Native.Nat.{_*_}
 use mathlib.Core.Bool.{Bool, true, false, not, _&&_, _||_}
 use mathlib.Core.Path.{_≡_}
 use mathlib.Core.List.{List, [], _∷_}
-use lib.Dec.{eqb}
+use lib.Dec.{eqb, ltb}
+use Rattle.numbers.specs.Bytes.{byte}
 use Rattle.faults.specs.Word.{bit}
+use Rattle.images.specs.Image.{fifteen}
+use Rattle.images.specs.Table.{wellFormed}
 use Rattle.theorems_history.specs.Log.{Entry, stateAfter, log}
 use Rattle.drive.specs.AnyCall.{Call, loads, cycles, ticks, blockLoads}
 use Rattle.drive.specs.declared.answer.Answer.{Answer}
 use Rattle.theorems_reached.specs.Machine.{machine}
-
-abbrev pub isBlockLoad : Call → Bool
-isBlockLoad (loads numbers) = false
-isBlockLoad (cycles fields) = false
-isBlockLoad (ticks fields) = false
-isBlockLoad (blockLoads image block) = true
 
 -- "a load of either kind"
 abbrev pub isLoad : Call → Bool
@@ -34,9 +31,16 @@ unfoldable pub loadedYet : List (Entry Call Answer) → Bool
 loadedYet [] = false
 loadedYet (e ∷ earlier) = loads-now e || loadedYet earlier
 
--- a block load that is answered with 2 in IDLE: its body was found, and load's own rules refused it
+-- "A body that it finds": by the call alone. The image is well-formed, the block is one of the fifteen, and its entry is of kind 1
+abbrev pub finds : Call → Bool
+finds (loads numbers) = false
+finds (cycles fields) = false
+finds (ticks fields) = false
+finds (blockLoads image block) = wellFormed fifteen image && ltb block 15 && eqb (byte (5 * block) image) 1
+
+-- ".. and load's own rules refuse in IDLE"
 abbrev pub refused-now : Entry Call Answer → List (Entry Call Answer) → Bool
-refused-now e earlier = isBlockLoad (e .call) && eqb (e .answer .number) 2 && not (loadedYet earlier)
+refused-now e earlier = finds (e .call) && not (eqb (e .answer .number) 0) && not (loadedYet earlier)
 
 -- flag 12 stands
 unfoldable pub lit : List (Entry Call Answer) → Bool
