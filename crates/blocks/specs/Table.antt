@@ -47,7 +47,8 @@ sizeOf (reads block image) = headSize + length image
 sizeOf (chooses count) = choosesSize
 sizeOf (writes lent holds blocks) = headSize + sizesOf blocks
 
--- "for each of the 15 .. blocks: 0 empty or 1 filled (more is bad), count (1 byte), the first 25 at most of so many numbers": the bytes of W
+-- the bytes of W: "for each of the 15 .. blocks: 0 empty or 1 filled (more is bad), count (1 byte), the first 25 at most of so many
+-- numbers"
 module _ (bytes : List ℕ) where
   -- where block k begins, from 0: behind the head and the blocks before it
   unfoldable pub placeOf : ℕ → ℕ
@@ -59,8 +60,8 @@ module _ (bytes : List ℕ) where
   badKind zero = false
   badKind (suc k) = badKind k || ltb 1 (byte (placeOf k) bytes)
 
-  -- The block whose bytes begin at this place. "An empty block has its count and numbers too; they mean nothing", nor do the zeros with which
-  -- fewer numbers fill their array.
+  -- The block whose bytes begin at this place. "An empty block has its count and numbers too; they mean nothing", nor do the zeros behind
+  -- fewer numbers than its array holds.
   unfoldable pub blockAt : ℕ → Block
   blockAt place =
       let given : ℕ = following (byte (place + 1) bytes) in

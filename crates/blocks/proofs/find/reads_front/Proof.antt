@@ -7,7 +7,7 @@ use lib.Seq.{length-take-le}
 use denote.Ref.{now}
 use borrow.Author.Needs.{needs}
 use borrow.Author.Tests.{lt-ltb, le-ltb}
-use Rattle.blocks.specs.Table.{readsFront}
+use Rattle.blocks.specs.Table.{mostBytes, readsFront}
 use Rattle.blocks.proofs.find.reads_front.Statement.{statement}
 use Rattle.blocks.proofs.find.reads_front.Tie as tie
 
@@ -17,7 +17,13 @@ returns c = rw (lt-ltb _ _ (c .if1 .taken))
 
 returns-2 : tie.Need-returns-2
 unfolding readsFront
-returns-2 c = rw (le-ltb _ _ (c .before .before .if1 .left), ← c .before .number-at .ensures, lt-ltb _ _ (c .if2 .taken))
+returns-2 c =
+    let head = c .before in
+    rw (
+      le-ltb _ _ (head .before .if1 .left),
+      ← head .number-at .ensures,
+      lt-ltb mostBytes (head .number-at .result) (omega arith),
+    )
 
 returns-3 : tie.Need-returns-3
 unfolding readsFront
@@ -26,7 +32,7 @@ returns-3 c =
     rw (
       le-ltb _ _ (head .before .if1 .left),
       ← head .number-at .ensures,
-      le-ltb _ _ (c .before .if2 .left),
+      le-ltb mostBytes (head .number-at .result) (omega arith),
       lt-ltb _ _ (c .if3 .taken),
     )
 
@@ -41,7 +47,7 @@ returns-4 c =
     rw (
       le-ltb _ _ (head .before .if1 .left),
       ← head .number-at .ensures,
-      le-ltb _ _ (all .before .if2 .left),
+      le-ltb mostBytes size (omega arith),
       le-ltb _ _ (all .if3 .left),
       length-take-le size (drop 4 bytes) inside,
       c .byte-at .ensures,

@@ -1,8 +1,10 @@
 -- `writes_front` makes the definition's tests: the head is there, so many bytes may be lent, no kind is bad, and all the blocks are there.
-use mathlib.Core.Path.{_∙_, sym}
+use native.Mathlib.Omega.{arith}
+use lib.ListN.{length}
+use denote.Ref.{now}
 use borrow.Author.Needs.{needs}
 use borrow.Author.Tests.{lt-ltb, le-ltb}
-use Rattle.blocks.specs.Table.{writesFront}
+use Rattle.blocks.specs.Table.{mostBytes, writesFront}
 use Rattle.blocks.proofs.Places.{sizes-are}
 use Rattle.blocks.proofs.find.writes_front.Statement.{statement}
 use Rattle.blocks.proofs.find.writes_front.Tie as tie
@@ -13,7 +15,13 @@ returns c = rw (lt-ltb _ _ (c .if1 .taken))
 
 returns-2 : tie.Need-returns-2
 unfolding writesFront
-returns-2 c = rw (le-ltb _ _ (c .before .before .if1 .left), ← c .before .number-at .ensures, lt-ltb _ _ (c .if2 .taken))
+returns-2 c =
+    let head = c .before in
+    rw (
+      le-ltb _ _ (head .before .if1 .left),
+      ← head .number-at .ensures,
+      lt-ltb mostBytes (head .number-at .result) (omega arith),
+    )
 
 returns-3 : tie.Need-returns-3
 unfolding writesFront
@@ -23,7 +31,7 @@ returns-3 c =
     rw (
       le-ltb _ _ (lent .before .if1 .left),
       ← lent .number-at .ensures,
-      le-ltb _ _ (walked .before .if2 .left),
+      le-ltb mostBytes (lent .number-at .result) (omega arith),
       ← walked .walk .ensures .0,
       c .if3 .taken,
     )
@@ -33,14 +41,15 @@ unfolding writesFront
 returns-4 c =
     let walked = c .before .before in
     let lent = walked .before .before in
+    let bytes = now (lent .before .before .before .args .bytes) in
     rw (
       le-ltb _ _ (lent .before .if1 .left),
       ← lent .number-at .ensures,
-      le-ltb _ _ (walked .before .if2 .left),
+      le-ltb mostBytes (lent .number-at .result) (omega arith),
       ← walked .walk .ensures .0,
       c .before .if3 .left,
       ← walked .walk .ensures .1,
-      lt-ltb _ _ (c .if4 .taken),
+      lt-ltb (length bytes) (walked .walk .result .place) (omega arith),
     )
 
 returns-5 : tie.Need-returns-5
@@ -49,14 +58,15 @@ returns-5 c =
     let all = c .before in
     let walked = all .before .before in
     let lent = walked .before .before in
+    let bytes = now (lent .before .before .before .args .bytes) in
     rw (
       le-ltb _ _ (lent .before .if1 .left),
       ← lent .number-at .ensures,
-      le-ltb _ _ (walked .before .if2 .left),
+      le-ltb mostBytes (lent .number-at .result) (omega arith),
       ← walked .walk .ensures .0,
       all .before .if3 .left,
       ← walked .walk .ensures .1,
-      le-ltb _ _ (all .if4 .left),
+      le-ltb (length bytes) (walked .walk .result .place) (omega arith),
       sizes-are,
       ← walked .walk .ensures .1,
       c .byte-at .ensures,

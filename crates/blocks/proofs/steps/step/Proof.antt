@@ -2,14 +2,15 @@
 use mathlib.Core.Path.{_≡_, refl, ap, sym, _∙_}
 use mathlib.Core.Bool.{Bool, cond}
 use mathlib.Core.List.{List}
-use Prim.Native.Nat.{ℕ}
+use Prim.Native.Nat.{ℕ, _<_}
+use native.Mathlib.Omega.{arith}
 use lib.ListN.{length}
 use denote.Ref.{now}
 use borrow.Author.Needs.{needs}
 use Rattle.streams.specs.Run.{Front, whole, Outcome, rest, refused, follow, runs, outputAfter}
 use Rattle.streams.proofs.ByFront.{at-tight, one-front, one-whole}
 use Rattle.blocks.specs.Table.{Record, reads, chooses, writes, sizeOf, front}
-use Rattle.blocks.specs.Line.{lineFor}
+use Rattle.blocks.specs.Line.{lineFor, lineRoom}
 use Rattle.blocks.specs.Blockline.{State, blockline, answered, ranOf}
 use Rattle.blocks.specs.declared.Ran.{Ran}
 use Rattle.blocks.specs.declared.find.Found.{Found}
@@ -64,6 +65,12 @@ module _ (c : tie.After-find) where
   replied r is long done =
       met _ (one-whole blockline _ _ _ _ (c .before .if1 .left) r is ∙ ap (answered (lineFor r)) long) done
 
+returns : tie.Need-returns
+returns c =
+    let start = c .before .before .before .before in
+    let tight : length (now (start .args .output)) < lineRoom = omega arith in
+    met _ (at-tight blockline 0 _ _ _ _ tight) (c .resting .ensures, refl)
+
 returns-2 : tie.Need-returns-2
 returns-2 c =
     let find = c .before .before .before in
@@ -108,10 +115,8 @@ returns-8 c =
 
 pub step-spec : {M : Type 1} → statement M
 step-spec =
-    tie.close (tie.spec (search needs)
-    (λ c. met _ (at-tight blockline 0 _ _ _ _ (c .before .if1 .taken)) (c .resting .ensures, refl))
-    (search needs) (search needs) (search needs) (search needs) (search needs) (search needs) (search needs)
-    (search needs) (search needs)
+    tie.close (tie.spec (search needs) returns (search needs) (search needs) (search needs) (search needs) (search needs)
+    (search needs) (search needs) (search needs) (search needs)
     (λ c κs.
     let image = imaged (c .before .before .before .before) (c .before .before .block .given .1) in
     (image .few, image .inside, search needs))
