@@ -1,6 +1,6 @@
 -- Numbers of a line one after the other: one more behind them, how long they are at most, and that a chain of writers which has room leaves
 -- all of its line.
-use mathlib.Core.Path.{_≡_, refl, ap, _∙_}
+use mathlib.Core.Path.{_≡_, _∙_}
 use mathlib.Core.List.{List, [], _∷_, _++_, append-assoc, append-nil}
 use Prim.Native.Nat.{ℕ, suc, _*_, _≤_, _<_}
 use native.Mathlib.Omega.{arith}

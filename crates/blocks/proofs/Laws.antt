@@ -7,8 +7,8 @@ use lib.ListN.{length}
 use Rattle.streams.specs.Run.{end, whole}
 use Rattle.streams.specs.Stream.{Lawful, Held, Roomy}
 use Rattle.streams.proofs.Grown.{none, few, within, read-off, still-unknown, still-whole}
-use Rattle.blocks.specs.Table.{Record, reads, chooses, writes, headSize, sizeOf, sizesOf, blocksOf, front}
-use Rattle.blocks.specs.Line.{lineFor, lineRoom, lineRate}
+use Rattle.blocks.specs.Table.{Record, reads, chooses, writes, headSize, sizeOf, sizesOf, front}
+use Rattle.blocks.specs.Line.{lineFor, lineRoom}
 use Rattle.blocks.specs.Blockline.{blockline, inputSize, outputSize, mostHeld}
 use Rattle.blocks.proofs.Places.{at-least, sizes-are}
 use Rattle.blocks.proofs.Grown.{ReadOff, no-front, grown}
@@ -22,6 +22,10 @@ a-byte (writes lent holds blocks) = omega arith
 empty : (bytes : List ℕ) → length bytes ≡ 0 → front bytes ≡ end
 empty [] none = no-front
 empty (x ∷ bytes) none = absurd (omega (arith, none))
+
+-- So many bytes of line at most for each byte of a record: none has a longer line for its bytes than W whose counts are all 0, of 34 bytes.
+abbrev lineRate : ℕ
+lineRate = 1267
 
 -- the line of a record that is read off the bytes has room, and no more bytes than the rate allows
 fitting : (bytes : List ℕ) (r : Record) → ReadOff bytes r → (length (lineFor r) ≤ lineRoom) × (length (lineFor r) ≤ lineRate * sizeOf r)

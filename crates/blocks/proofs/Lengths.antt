@@ -1,11 +1,11 @@
 -- How long a line can be, whatever it shows.
-use mathlib.Core.Path.{_≡_, refl, ap, _∙_}
+use mathlib.Core.Path.{_≡_, refl}
 use mathlib.Core.Bool.{Bool, true, false, cond}
 use mathlib.Core.List.{List, [], _∷_, _++_}
 use Prim.Native.Nat.{ℕ, _+_, _*_, _/_, _≤_}
 use native.Mathlib.Omega.{arith}
-use lib.Dec.{T, eqb, ltb, eqb→eq}
-use lib.ListN.{length, take, drop, replicate, length-append, length-take, length-drop, length-replicate}
+use lib.Dec.{ltb}
+use lib.ListN.{length, drop, replicate, length-append, length-take, length-drop, length-replicate}
 use borrow.Author.Tests.{eqb-true, ltb-false}
 use Rattle.numbers.proofs.Bytes.{length-numbers}
 use Rattle.text.proofs.Decimals.{at-most-twenty}
@@ -16,7 +16,6 @@ use Rattle.images.specs.Reads.{readRows, part, found}
 use Rattle.images.specs.Writes.{imageIn, writeRows, isWritten, written, lentAfter}
 use Rattle.images.specs.declared.Block.{Block}
 use Rattle.images.proofs.Rows.{all-passed}
-use Rattle.blocks.specs.Table.{mostBytes}
 use Rattle.blocks.specs.Line.{lineOf, readsLine, choosesLine, writesLine, refusalLine, lineRoom}
 use Rattle.blocks.proofs.Fields.{length-fields}
 

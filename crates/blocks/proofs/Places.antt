@@ -1,11 +1,10 @@
 -- The blocks of W: where they begin, how many bytes they have, and that bytes which come later change nothing of those that are there.
 use mathlib.Core.Path.{_≡_, refl, sym, ap, _∙_}
-use mathlib.Core.Bool.{_||_}
 use mathlib.Core.List.{List, [], _∷_, _++_}
 use Prim.Native.Nat.{ℕ, zero, suc, _+_, _*_, _≤_, _<_}
 use native.Mathlib.Omega.{arith}
 use lib.Dec.{T, ltb, ltb→lt, nltb→le}
-use lib.ListN.{length, drop, replicate, List·getD-append, List·getD-eq-default}
+use lib.ListN.{length, List·getD-append, List·getD-eq-default}
 use lib.Seq.{take-append-seam}
 use Rattle.numbers.specs.Bytes.{byte, number, numbers}
 use Rattle.numbers.proofs.Bytes.{numbers-take}

@@ -1,7 +1,7 @@
 -- The page of the bench programs, "blockline: images": its lines.
 use Prim.Native.Nat.{ℕ, _+_, _*_}
 use mathlib.Core.List.{List, [], _∷_, _++_}
-use lib.ListN.{length, replicate}
+use lib.ListN.{replicate}
 use Rattle.text.specs.Text.{text}
 use Rattle.text.specs.Decimal.{decimal}
 use Rattle.verdicts.specs.Table.{verdict}
@@ -55,7 +55,3 @@ refusalLine = text "?\n"
 -- asks nothing of them.
 abbrev pub lineRoom : ℕ
 lineRoom = 21 * (3 + mostBytes)
-
--- So many bytes of line at most for each byte of a record: the worst is W, whose blocks can all have the count 0.
-abbrev pub lineRate : ℕ
-lineRate = 1267

@@ -7,7 +7,6 @@ use images::BLOCKS;
 use numbers::byte_at;
 use numbers::number_at;
 ghost use mathlib.Core.Path.{_≡_};
-ghost use Prim.Native.Nat.{_≤_};
 ghost use Rattle.blocks.specs.Table.{placeOf, badKind, readsFront, choosesFront, writesFront, front, found};
 
 // Of R it tells the block and how many bytes the image has, of A the count, of W how many bytes are lent, what they hold, and how many

@@ -9,7 +9,6 @@ use images::writer::write;
 use numbers::number_at;
 use text::put;
 use text::put_decimal;
-ghost use mathlib.Core.Path.{_≡_};
 ghost use mathlib.Core.List.{_++_};
 ghost use Prim.Native.Nat.{_≤_};
 ghost use lib.ListN.{length};

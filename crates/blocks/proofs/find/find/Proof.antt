@@ -1,5 +1,4 @@
 -- `find` goes by the letter, as the definition does.
-use mathlib.Core.Path.{_≡_, sym, _∙_}
 use borrow.Author.Needs.{needs}
 use borrow.Author.Tests.{eq-eqb, ne-eqb}
 use Rattle.blocks.specs.Table.{front}

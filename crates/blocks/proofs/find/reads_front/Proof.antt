@@ -1,6 +1,5 @@
 -- `reads_front` makes the definition's tests: the head is there, the length is right, and so many bytes are there.
-use mathlib.Core.Path.{_≡_}
-use Prim.Native.Nat.{_+_, _≤_}
+use Prim.Native.Nat.{_≤_}
 use native.Mathlib.Omega.{arith}
 use lib.ListN.{length, drop, length-drop}
 use lib.Seq.{length-take-le}

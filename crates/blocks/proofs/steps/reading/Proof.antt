@@ -1,8 +1,8 @@
 -- `reading` writes the line of the image behind the head, for which there is room whatever it shows.
-use mathlib.Core.Path.{_≡_, ap}
-use Prim.Native.Nat.{_≤_, _+_, _-_}
+use mathlib.Core.Path.{_≡_}
+use Prim.Native.Nat.{_+_, _-_}
 use native.Mathlib.Omega.{arith}
-use lib.ListN.{length, take, drop, length-take}
+use lib.ListN.{take, drop, length-take}
 use denote.Ref.{now}
 use borrow.Author.Needs.{needs}
 use Rattle.blocks.proofs.Fields.{all-put}

@@ -1,10 +1,6 @@
 -- `refusing` writes the line `?`, for which there is room.
-use Prim.Native.Nat.{_≤_}
 use native.Mathlib.Omega.{arith}
-use lib.ListN.{length}
-use denote.Ref.{now}
 use borrow.Author.Needs.{needs}
-use Rattle.blocks.specs.Line.{refusalLine}
 use Rattle.blocks.proofs.Fields.{all-put}
 use Rattle.blocks.proofs.Lengths.{refusal-fits}
 use Rattle.blocks.proofs.steps.refusing.Statement.{statement}

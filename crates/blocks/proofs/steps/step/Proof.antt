@@ -2,7 +2,7 @@
 use mathlib.Core.Path.{_≡_, refl, ap, sym, _∙_}
 use mathlib.Core.Bool.{Bool, cond}
 use mathlib.Core.List.{List}
-use Prim.Native.Nat.{ℕ, _<_}
+use Prim.Native.Nat.{ℕ, _≤_, _<_}
 use native.Mathlib.Omega.{arith}
 use lib.ListN.{length}
 use denote.Ref.{now}
@@ -41,10 +41,14 @@ module _ (c : tie.After-find) where
   abbrev meant : Outcome State
   meant = runs blockline 1 (start .args .closed) (length (now (start .args .output))) bytes tt
 
+  -- there is room for a line
+  wide : lineRoom ≤ length (now (start .args .output))
+  wide = omega (arith, c .before .if1 .left)
+
   -- what the definition does about what stands at the front; and about a part of a record
   at-front : {f : Front Record} → front bytes ≡ f
       → meant ≡ follow blockline (start .args .closed) tt f (λ (r : Record). rest tt)
-  at-front is = one-front blockline _ _ _ _ (c .before .if1 .left) is
+  at-front is = one-front blockline _ _ _ _ wide is
 
   at-short : c .find .result ≡ Short → {closed : Bool} → start .args .closed ≡ closed
       → meant ≡ cond closed (refused blockline tt) (rest tt)
@@ -63,7 +67,7 @@ module _ (c : tie.After-find) where
       → Met (answered (lineFor r) size) (now (start .args .output)) result left
       → Met meant (now (start .args .output)) result left
   replied r is long done =
-      met _ (one-whole blockline _ _ _ _ (c .before .if1 .left) r is ∙ ap (answered (lineFor r)) long) done
+      met _ (one-whole blockline _ _ _ _ wide r is ∙ ap (answered (lineFor r)) long) done
 
 returns : tie.Need-returns
 returns c =
