@@ -1,19 +1,22 @@
-//! Streams for `benchline`: those of the generator, with records N among
-//! theirs, and counts of what they reach.
+//! Streams for `benchline`: those of the generator, with records N and B among
+//! theirs.
 //!
 //! A generated stream is steered by its own records, so what is put among them
-//! changes no state: an L or M becomes the N of the same numbers, and an N that
-//! comes besides is one that is refused.
+//! changes nothing that steers: an L or M becomes the N of the same numbers, or
+//! the B of an image that holds them, and what comes besides is refused.  In
+//! IDLE that may set flag 12, which the next accepted load takes away.
 
 use crate::benchline::{read_bench_head, BenchHead, BenchRecord};
-use crate::drive::{Answer, Drive};
+use crate::drive::Drive;
 use crate::generator::stream;
-use crate::hall::{Layout, THREE_SENSORS, TWO_SENSORS};
+use crate::image::BLOCKS;
+use crate::input::MOST_BYTES;
 use crate::load::{BAD_SENSORS, SENSORS_PLACE};
 use crate::random::Random;
-use crate::record::{record_length, Record};
+use crate::record::Record;
 use crate::settings::SETTINGS;
-use std::collections::BTreeMap;
+use crate::sketch::{any_bodies, blocks, damaged, image_with, well_formed, NO_BLOCKS};
+use crate::state::State;
 
 const LENGTHS: [usize; 12] = [
     0,
@@ -33,246 +36,187 @@ const LENGTHS: [usize; 12] = [
 /// The stream of a seed: so many records of the generator, and those besides.
 pub fn bench_stream(seed: u64, records: u64) -> Vec<u8> {
     let generated = stream(seed, records);
-    let mut random = Random::new(seed ^ 0xBE7C);
-    let mut written = Vec::new();
-    let mut drive = Drive::power_up();
-    let mut last_load = vec![0; SETTINGS];
+    let mut bench = Bench {
+        random: Random::new(seed ^ 0xBE7C),
+        drive: Drive::power_up(),
+        last_load: vec![0; SETTINGS],
+        written: Vec::new(),
+    };
+    // Images that are refused before any body is: none of them sets flag 12.
+    for _ in 0..bench.random.between(0, 3) {
+        let refused = bench.image_refused();
+        bench.write_refused(refused);
+    }
     let mut rest = generated.as_slice();
     while let BenchHead::Whole(record, length) = read_bench_head(rest) {
         rest = &rest[length..];
-        if random.chance(20) {
-            put_besides(&mut random, &last_load, &drive, &mut written);
-        }
-        let mut record = record;
-        if let Some(numbers) = record.as_in_shiftline().and_then(Record::numbers) {
-            last_load = numbers.to_vec();
-            if random.chance(500) {
-                record = BenchRecord::Numbers(last_load.clone());
-            }
-        }
-        written.extend_from_slice(&record.bytes());
-        drive = record.call(&drive).drive;
+        bench.put(record);
     }
-    if rest.is_empty() && random.chance(500) {
-        written.extend_from_slice(&short_numbers(&mut random));
+    if rest.is_empty() {
+        let ending = ending(&mut bench.random, seed);
+        bench.written.extend(ending);
     }
-    written.extend_from_slice(rest);
-    written
+    bench.written.extend_from_slice(rest);
+    bench.written
 }
 
-/// A load of any length that is refused: by its length, by a setting, or by
-/// the state.
-fn put_besides(random: &mut Random, last_load: &[u16], drive: &Drive, written: &mut Vec<u8>) {
-    let length = if random.chance(200) {
-        random.between(0, 255) as usize
-    } else {
-        random.pick(&LENGTHS)
-    };
-    let mut numbers: Vec<u16> = last_load.iter().copied().cycle().take(length).collect();
-    if length > 0 && random.chance(500) {
-        let spoiled = random.between(0, length as i64 - 1) as usize;
-        numbers[spoiled] = random.pick(&[0, 1, 255, 256, 4096, 32768, 65535]);
-    }
-    if length == SENSORS_PLACE && random.chance(700) {
-        numbers[SETTINGS] = random.pick(&BAD_SENSORS);
-    }
-    let record = BenchRecord::Numbers(numbers);
-    if record.call(drive).answer.number != 0 {
-        written.extend_from_slice(&record.bytes());
-    }
+struct Bench {
+    random: Random,
+    /// The drive state after the records written so far.
+    drive: Drive,
+    /// The numbers of the last load of the generator.
+    last_load: Vec<u16>,
+    written: Vec<u8>,
 }
 
-/// The letter alone, the letter and a count, or numbers of which the last
-/// bytes are missing.
-fn short_numbers(random: &mut Random) -> Vec<u8> {
-    let count = random.between(1, 255) as u8;
-    let whole = BenchRecord::Numbers(vec![1; count as usize]).bytes();
-    let kept = random.leaning(1, whole.len() as i64 - 1) as usize;
-    whole[..kept].to_vec()
-}
-
-/// Whether a load has a setting 25 "outside 2..3".
-fn has_bad_sensors(numbers: &[u16]) -> bool {
-    let sensors = numbers.get(SETTINGS);
-    sensors.is_some_and(|&sensors| Layout::of(sensors).is_none())
-}
-
-/// Names that are counted.
-const LIST: [&str; 33] = [
-    "N accepted in IDLE",
-    "N accepted in STOP",
-    "N accepted with 25 numbers, two sensors",
-    "N accepted with 25 numbers, three sensors",
-    "N accepted with 24 numbers after two sensors",
-    "M accepted with two sensors",
-    "M accepted with three sensors",
-    "N refused 2 at 0 with 0 numbers",
-    "N refused 2 at 0 with 23 numbers",
-    "N refused 2 at 0 with 26 numbers",
-    "N refused 2 at 0 with 255 numbers",
-    "N refused 2 by a setting",
-    "N refused 2 at 25",
-    "N refused 2 before place 25 with a bad setting 25",
-    "M refused 2 at 25",
-    "M refused 2 before place 25 with a bad setting 25",
-    "N refused 4 with 24 numbers",
-    "N refused 4 with 25 numbers",
-    "N refused 4 with another length",
-    "C refused 1 at 1 with two sensors, pattern 4 to 7",
-    "short N: the letter alone",
-    "short N: no number whole",
-    "short N: in its numbers",
-    "short M: 24 numbers whole",
-    "? after an unknown or a short record of shiftline",
-    "end between records",
-    "place above 0 by a load",
-    "place above 0 by a cycle",
-    "place above 0 by a tick",
-    "offsets that differ",
-    "offsets that differ with two sensors",
-    "retries above 0",
-    "retries above 1",
-];
-
-#[derive(Default)]
-pub struct BenchReached {
-    counts: BTreeMap<&'static str, u64>,
-}
-
-impl BenchReached {
-    pub fn add_stream(&mut self, stream: &[u8]) {
-        let mut drive = Drive::power_up();
-        let mut rest = stream;
-        loop {
-            match read_bench_head(rest) {
-                BenchHead::End => return self.count("end between records"),
-                BenchHead::Bad => return self.bad(rest),
-                BenchHead::Whole(record, length) => {
-                    rest = &rest[length..];
-                    let reply = record.call(&drive);
-                    self.whole(&record, &drive, &reply.answer);
-                    drive = reply.drive;
-                }
-            }
+impl Bench {
+    /// A record of the generator, or the same load in another form; and now
+    /// and then one besides before it.
+    fn put(&mut self, record: BenchRecord) {
+        let idle = self.drive.state == State::Idle;
+        if self.random.chance(if idle { 100 } else { 30 }) {
+            let besides = self.besides();
+            self.write_refused(besides);
         }
-    }
-
-    fn bad(&mut self, rest: &[u8]) {
-        let whole_with_24 = record_length(b'L').expect("L is known");
-        self.count(match rest {
-            [b'N'] => "short N: the letter alone",
-            [b'N', _] | [b'N', _, _] => "short N: no number whole",
-            [b'N', ..] => "short N: in its numbers",
-            [b'M', ..] if rest.len() >= whole_with_24 => "short M: 24 numbers whole",
-            _ => "? after an unknown or a short record of shiftline",
-        });
-    }
-
-    fn whole(&mut self, record: &BenchRecord, before: &Drive, answer: &Answer) {
-        match record {
-            BenchRecord::Numbers(numbers) => self.numbers(numbers, before, answer),
-            BenchRecord::AsInShiftline(record) => self.as_in_shiftline(record, before, answer),
-        }
-        if answer.place > 0 {
-            self.count(match record {
-                BenchRecord::AsInShiftline(Record::Cycle(_)) => "place above 0 by a cycle",
-                BenchRecord::AsInShiftline(Record::Tick(_)) => "place above 0 by a tick",
-                _ => "place above 0 by a load",
-            });
-        }
-        if answer.offsets.first != answer.offsets.second {
-            self.count("offsets that differ");
-            if *before.layout == TWO_SENSORS {
-                self.count("offsets that differ with two sensors");
-            }
-        }
-        if answer.retries_used > 0 {
-            self.count("retries above 0");
-        }
-        if answer.retries_used > 1 {
-            self.count("retries above 1");
-        }
-    }
-
-    fn numbers(&mut self, numbers: &[u16], before: &Drive, answer: &Answer) {
-        let after_two = *before.layout == TWO_SENSORS;
-        if answer.number == 0 {
-            self.count(match before.state.number() {
-                0 => "N accepted in IDLE",
-                _ => "N accepted in STOP",
-            });
-        }
-        match (answer.number, answer.place, numbers.len()) {
-            (0, _, SETTINGS) if after_two => {
-                self.count("N accepted with 24 numbers after two sensors");
-            }
-            (0, _, SENSORS_PLACE) => self.count(match numbers[SETTINGS] {
-                2 => "N accepted with 25 numbers, two sensors",
-                _ => "N accepted with 25 numbers, three sensors",
-            }),
-            (2, 0, 0) => self.count("N refused 2 at 0 with 0 numbers"),
-            (2, 0, 23) => self.count("N refused 2 at 0 with 23 numbers"),
-            (2, 0, 26) => self.count("N refused 2 at 0 with 26 numbers"),
-            (2, 0, 255) => self.count("N refused 2 at 0 with 255 numbers"),
-            (2, 25, _) => self.count("N refused 2 at 25"),
-            (2, 1.., _) => {
-                self.count("N refused 2 by a setting");
-                if has_bad_sensors(numbers) {
-                    self.count("N refused 2 before place 25 with a bad setting 25");
-                }
-            }
-            (4, _, SETTINGS) => self.count("N refused 4 with 24 numbers"),
-            (4, _, SENSORS_PLACE) => self.count("N refused 4 with 25 numbers"),
-            (4, _, _) => self.count("N refused 4 with another length"),
-            _ => {}
-        }
-    }
-
-    fn as_in_shiftline(&mut self, record: &Record, before: &Drive, answer: &Answer) {
-        match (record, answer.number, answer.place) {
-            (Record::LoadWithSensors(numbers), 0, _) => self.count(match numbers[SETTINGS] {
-                2 => "M accepted with two sensors",
-                _ => "M accepted with three sensors",
-            }),
-            (Record::LoadWithSensors(_), 2, 25) => self.count("M refused 2 at 25"),
-            (Record::LoadWithSensors(numbers), 2, _) if has_bad_sensors(numbers) => {
-                self.count("M refused 2 before place 25 with a bad setting 25");
-            }
-            (Record::Cycle(fields), 1, 1)
-                if *before.layout == TWO_SENSORS
-                    && fields.pattern <= THREE_SENSORS.most_pattern =>
-            {
-                self.count("C refused 1 at 1 with two sensors, pattern 4 to 7");
-            }
-            _ => {}
-        }
-    }
-
-    fn count(&mut self, name: &'static str) {
-        assert!(LIST.contains(&name), "{name} is not listed");
-        *self.counts.entry(name).or_default() += 1;
-    }
-
-    /// The names of the list that were never counted.
-    pub fn at_zero(&self) -> Vec<&'static str> {
-        let never = |name: &&str| !self.counts.contains_key(name);
-        LIST.iter().copied().filter(never).collect()
-    }
-
-    /// One line for each count, and the names at zero.
-    pub fn lines(&self) -> Vec<String> {
-        let counts = self.counts.iter();
-        let mut lines: Vec<String> = counts
-            .map(|(name, count)| format!("{name}: {count}"))
-            .collect();
-        lines.push(format!("benchline, listed: {} names", LIST.len()));
-        let zero = self.at_zero();
-        let told = if zero.is_empty() {
-            "none".to_string()
-        } else {
-            zero.join("; ")
+        let numbers = record.as_in_shiftline().and_then(Record::numbers);
+        let Some(numbers) = numbers.map(<[u16]>::to_vec) else {
+            return self.write(record);
         };
-        lines.push(format!("benchline, at zero: {told}"));
-        lines
+        self.last_load = numbers.clone();
+        // Flag 12 before the load that takes it away.
+        let accepted = record.call(&self.drive).answer.number == 0;
+        if idle && accepted && self.random.chance(700) {
+            let refused = self.refused_body();
+            self.write_refused(refused);
+        }
+        let same_load = match self.random.between(0, 2) {
+            0 => record,
+            1 => BenchRecord::Numbers(numbers),
+            _ => self.block_of(&numbers),
+        };
+        self.write(same_load);
     }
+
+    fn write(&mut self, record: BenchRecord) {
+        self.written.extend_from_slice(&record.bytes());
+        self.drive = record.call(&self.drive).drive;
+    }
+
+    /// Writes a record if it is refused here.
+    fn write_refused(&mut self, record: BenchRecord) {
+        if record.call(&self.drive).answer.number != 0 {
+            self.write(record);
+        }
+    }
+
+    /// What may come besides: a load by numbers or by a block.
+    fn besides(&mut self) -> BenchRecord {
+        match self.random.between(0, 5) {
+            0 | 1 => self.any_numbers(),
+            2 => self.refused_body(),
+            3 => {
+                let numbers = self.last_load.clone();
+                self.block_of(&numbers)
+            }
+            _ => self.image_refused(),
+        }
+    }
+
+    /// A load of any length that is refused: by its length, by a setting, or
+    /// by the state.
+    fn any_numbers(&mut self) -> BenchRecord {
+        let random = &mut self.random;
+        let length = if random.chance(200) {
+            random.between(0, 255) as usize
+        } else {
+            random.pick(&LENGTHS)
+        };
+        let mut numbers: Vec<u16> = self
+            .last_load
+            .iter()
+            .copied()
+            .cycle()
+            .take(length)
+            .collect();
+        if length > 0 && random.chance(500) {
+            let spoiled = random.between(0, length as i64 - 1) as usize;
+            numbers[spoiled] = random.pick(&[0, 1, 255, 256, 4096, 32768, 65535]);
+        }
+        if length == SENSORS_PLACE && random.chance(700) {
+            numbers[SETTINGS] = random.pick(&BAD_SENSORS);
+        }
+        BenchRecord::Numbers(numbers)
+    }
+
+    /// A block load of these numbers.
+    fn block_of(&mut self, numbers: &[u16]) -> BenchRecord {
+        let block = self.random.between(0, BLOCKS as i64 - 1) as u8;
+        let image = image_with(&mut self.random, block, numbers);
+        BenchRecord::Block { block, image }
+    }
+
+    /// A block load of a body that load's own rules refuse.
+    fn refused_body(&mut self) -> BenchRecord {
+        let mut numbers = self.last_load.clone();
+        numbers.truncate(SETTINGS);
+        match self.random.between(0, 2) {
+            0 => numbers[0] = 2,
+            1 => numbers[SETTINGS - 1] = 101,
+            _ => numbers.push(self.random.pick(&BAD_SENSORS)),
+        }
+        self.block_of(&numbers)
+    }
+
+    /// A block load that the image refuses, or the block asked for.
+    fn image_refused(&mut self) -> BenchRecord {
+        let random = &mut self.random;
+        let bodies = any_bodies(random, &self.last_load);
+        let filled = blocks(&bodies, true);
+        let any = random.between(0, BLOCKS as i64 - 1) as u8;
+        let block = match random.between(0, 7) {
+            0 | 1 => random.pick(&NO_BLOCKS),
+            2..=5 if !filled.is_empty() => random.pick(&filled) as u8,
+            _ => any,
+        };
+        let image = match random.between(0, 19) {
+            0..=8 => well_formed(&bodies),
+            // A lent buffer that is longer than the image is none.
+            9 => {
+                let mut image = well_formed(&bodies);
+                image.resize(MOST_BYTES, 0);
+                image
+            }
+            _ => damaged(random, &bodies),
+        };
+        BenchRecord::Block { block, image }
+    }
+}
+
+/// How the stream of a seed ends whose generated part ends between records: so,
+/// or in a short N or B, or in a B that is too long.  The seeds that the
+/// generator ends so are, of every seven, the last three.
+fn ending(random: &mut Random, seed: u64) -> Vec<u8> {
+    let numbers = BenchRecord::Numbers(vec![1; random.between(2, 255) as usize]).bytes();
+    let image = vec![0; random.between(1, 100) as usize];
+    let block = BenchRecord::Block { block: 0, image }.bytes();
+    let too_long = random.pick(&[[8, 1], [8, 255], [16, 0], [255, 255]]);
+    // A good record behind what is bad must not be answered.
+    let behind = b"N\0".as_slice();
+    match (seed / 7 * 3 + seed % 7) % 10 {
+        0 => b"N".to_vec(),
+        1 => numbers[..random.between(2, 3) as usize].to_vec(),
+        2 => cut(random, &numbers, 4),
+        3 => b"B".to_vec(),
+        4 => block[..random.between(2, 3) as usize].to_vec(),
+        5 => cut(random, &block, 4),
+        6 => [b"B\0".as_slice(), &too_long, behind].concat(),
+        7 => [b"B\0\x08\x01".as_slice(), &[0; MOST_BYTES + 1], behind].concat(),
+        _ => Vec::new(),
+    }
+}
+
+/// So many of a record's bytes at least, and one missing at least.
+fn cut(random: &mut Random, whole: &[u8], least: i64) -> Vec<u8> {
+    let kept = random.leaning(least, whole.len() as i64 - 1);
+    whole[..kept as usize].to_vec()
 }

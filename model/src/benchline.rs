@@ -2,6 +2,7 @@
 //! print": any call of the supervisor, whole answers.
 
 use crate::drive::{Answer, Drive, Reply};
+use crate::input::{push_block_and_image, push_number, Input};
 use crate::record::{read_head, record_length, Head, Record};
 
 /// The rows of its table.
@@ -11,6 +12,9 @@ pub enum BenchRecord {
     AsInShiftline(Record),
     /// "N | count (1 byte), then so many numbers | load of any length"
     Numbers(Vec<u16>),
+    /// "B | block (1 byte), length (at most 2048, more is bad), so many bytes |
+    /// block load from this image"
+    Block { block: u8, image: Vec<u8> },
 }
 
 /// What stands at the head of the remaining input.
@@ -25,9 +29,19 @@ pub enum BenchHead {
 }
 
 pub fn read_bench_head(input: &[u8]) -> BenchHead {
-    if input.first() == Some(&b'N') {
-        return read_numbers(&input[1..]);
+    let read = match input.first() {
+        Some(b'N') => read_numbers,
+        Some(b'B') => read_block_load,
+        _ => return read_as_in_shiftline(input),
+    };
+    let mut rest = Input::new(&input[1..]);
+    match read(&mut rest) {
+        Some(record) => BenchHead::Whole(record, input.len() - rest.rest().len()),
+        None => BenchHead::Bad,
     }
+}
+
+fn read_as_in_shiftline(input: &[u8]) -> BenchHead {
     match read_head(input) {
         Head::End => BenchHead::End,
         Head::Unknown(_) | Head::Short(_) => BenchHead::Bad,
@@ -38,22 +52,17 @@ pub fn read_bench_head(input: &[u8]) -> BenchHead {
     }
 }
 
-/// What follows the letter N: "count (1 byte), then so many numbers"; numbers
-/// "are two bytes, high byte first".
-fn read_numbers(rest: &[u8]) -> BenchHead {
-    let Some(&count) = rest.first() else {
-        return BenchHead::Bad;
-    };
-    let bytes = &rest[1..];
-    let needed = count as usize * 2;
-    if bytes.len() < needed {
-        return BenchHead::Bad;
-    }
-    let numbers = bytes[..needed]
-        .chunks(2)
-        .map(|two| two[0] as u16 * 256 + two[1] as u16)
-        .collect();
-    BenchHead::Whole(BenchRecord::Numbers(numbers), 2 + needed)
+/// What follows the letter N: "count (1 byte), then so many numbers".
+fn read_numbers(rest: &mut Input) -> Option<BenchRecord> {
+    let count = rest.byte()? as usize;
+    rest.numbers(count).map(BenchRecord::Numbers)
+}
+
+/// What follows the letter B: "block (1 byte), length (at most 2048, more is
+/// bad), so many bytes".
+fn read_block_load(rest: &mut Input) -> Option<BenchRecord> {
+    let (block, image) = rest.block_and_image()?;
+    Some(BenchRecord::Block { block, image })
 }
 
 impl BenchRecord {
@@ -61,7 +70,7 @@ impl BenchRecord {
     pub fn as_in_shiftline(&self) -> Option<&Record> {
         match self {
             BenchRecord::AsInShiftline(record) => Some(record),
-            BenchRecord::Numbers(_) => None,
+            BenchRecord::Numbers(_) | BenchRecord::Block { .. } => None,
         }
     }
 
@@ -70,6 +79,7 @@ impl BenchRecord {
         match self {
             BenchRecord::AsInShiftline(record) => record.call(drive),
             BenchRecord::Numbers(numbers) => drive.load(numbers),
+            BenchRecord::Block { block, image } => drive.load_block(image, *block as usize),
         }
     }
 
@@ -79,9 +89,14 @@ impl BenchRecord {
             BenchRecord::Numbers(numbers) => {
                 let count = u8::try_from(numbers.len()).expect("a byte counts them");
                 let mut bytes = vec![b'N', count];
-                for number in numbers {
-                    bytes.extend_from_slice(&[(number / 256) as u8, (number % 256) as u8]);
+                for &number in numbers {
+                    push_number(&mut bytes, number as usize);
                 }
+                bytes
+            }
+            BenchRecord::Block { block, image } => {
+                let mut bytes = vec![b'B'];
+                push_block_and_image(&mut bytes, *block, image);
                 bytes
             }
         }

@@ -40,7 +40,7 @@ impl Drive {
     ///
     /// The drive is still in the state before the tick.
     pub fn standing_causes(&self, fields: &TickFields) -> i64 {
-        let standing = Flag::ALL
+        let standing = Flag::OF_CAUSES
             .into_iter()
             .filter(|&flag| self.cause_stands(flag, fields));
         standing.map(Flag::bit).sum()
@@ -74,6 +74,8 @@ impl Drive {
             Flag::HallTimeOut => {
                 counting && self.hall_still_ticks >= 10 * settings[Setting::HallTimeoutPeriod]
             }
+            // M-102: a refused block load sets it, and no cause of a tick.
+            Flag::BlockRefused => false,
             // "15: dead streak is 2."
             Flag::HallPattern => self.dead_streak == 2,
         }

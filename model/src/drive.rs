@@ -87,18 +87,22 @@ pub struct Answer {
 /// The numbers of the table of refusals.
 #[derive(Clone, Copy, Debug, PartialEq, Eq)]
 pub enum Refusal {
-    /// "cycle or tick field out of range"
+    /// "cycle or tick field out of range"; M-102: "Count above 4095 is 1."
     FieldOutOfRange = 1,
-    /// a load of another length, or a setting that breaks its rule
+    /// a load or a body of another length, or a setting that breaks its rule
     BadSetting = 2,
     /// "cycle or tick in IDLE"
     InIdle = 3,
     /// "load outside IDLE and STOP"
     NotStopped = 4,
-    /// no line for this answer, or no room for it
-    NoLine = 5,
+    /// no line for this answer, or no room for it or for an image
+    NoLineOrImage = 5,
     /// "unknown or short record"
     UnknownOrShort = 6,
+    /// M-102: "7 image malformed, then 8 block above 14, then 9 block empty"
+    ImageMalformed = 7,
+    NoSuchBlock = 8,
+    BlockEmpty = 9,
 }
 
 /// "Each hands the next drive state back beside its answer".
@@ -247,9 +251,14 @@ impl Drive {
     /// "A refusal changes no state and no lent byte; its other fields show
     /// the unchanged state."
     pub fn refuse(&self, refusal: Refusal, place: u8) -> Reply {
+        self.refuse_by(refusal as u8, place)
+    }
+
+    /// The same by the refusal's number.
+    pub fn refuse_by(&self, number: u8, place: u8) -> Reply {
         Reply {
             drive: self.clone(),
-            answer: self.answer(refusal as u8, place),
+            answer: self.answer(number, place),
         }
     }
 }

@@ -1,6 +1,6 @@
 //! The flags that have a meaning, by their bits.
 
-/// "Causes standing at a tick set these flags".
+/// "Causes standing at a tick set these flags", all but flag 12.
 #[derive(Clone, Copy, Debug, PartialEq, Eq)]
 pub enum Flag {
     GateKill = 0,
@@ -10,12 +10,15 @@ pub enum Flag {
     Flux = 4,
     OverTemperature = 6,
     RotorLock = 7,
+    /// M-102: set by a block load; no cause of a tick sets it.
+    BlockRefused = 12,
     HallTimeOut = 14,
     HallPattern = 15,
 }
 
 impl Flag {
-    pub const ALL: [Flag; 9] = [
+    /// The flags that a cause sets, or Hall samples.
+    pub const OF_CAUSES: [Flag; 9] = [
         Flag::GateKill,
         Flag::CriticalOverVoltage,
         Flag::OverVoltage,
@@ -40,9 +43,16 @@ impl Flag {
         word & self.bit() != 0
     }
 
-    /// "0 and 1 are always live": no mask can hide them.
+    /// "0 and 1 are always live", and M-102: "flag 12, always live": no mask
+    /// can hide them.
+    pub const NEVER_MASKED: [Flag; 3] = [
+        Flag::GateKill,
+        Flag::CriticalOverVoltage,
+        Flag::BlockRefused,
+    ];
+
     pub fn can_be_masked(self) -> bool {
-        !matches!(self, Flag::GateKill | Flag::CriticalOverVoltage)
+        !Flag::NEVER_MASKED.contains(&self)
     }
 
     /// The flags whose cause a tick's own fields decide, whatever came before.

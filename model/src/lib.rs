@@ -1,5 +1,5 @@
 //! An independent model of the drive supervisor that document 01 defines,
-//! with the requests of document 02 that have landed (M-101).
+//! with the requests of document 02 that have landed (M-101, M-102).
 //!
 //! It was written from these (with the readings of `readings.md` and
 //! `readings-requests.md`) and from nothing else, so that it can be compared,
@@ -19,24 +19,41 @@
 //! * `tick_fields` the fields of a tick: ranges, command, target,
 //! * `tick`      the tick call: move, speed reference,
 //! * `causes`    the causes that set flags,
+//! * `image`     parameter images: reader, writer, analog choice,
+//! * `block_load` the block load call,
 //! * `line`      the report line call,
 //! * `record`    records of the program,
 //! * `program`   the program itself,
-//! * `benchline` the bench program of the page on bench formats.
+//! * `input`     what the bench programs take from their input,
+//! * `benchline` and `blockline` the programs of the page on bench formats.
 //!
 //! The rest is for the comparison: `random` and `generator` make streams,
-//! `reached` counts what a stream reaches; `bench_stream` does both for
-//! `benchline`, and `written_stream` is what the programs that write one share.
+//! `reached` counts what a stream reaches; `bench_stream` and `bench_reached`
+//! do so for `benchline`, `block_stream` and `block_reached` for `blockline`.
+//! `sketch` draws the images of both, damaged ones too, `damage` tells what is
+//! wrong with one, `image_rows` what is counted of it; `counts` holds names
+//! against a list, and `written_stream` is what the programs that write a
+//! stream share.
 
+pub mod bench_reached;
 pub mod bench_stream;
 pub mod benchline;
+pub mod block_load;
+pub mod block_reached;
+pub mod block_stream;
+pub mod blockline;
 pub mod causes;
+pub mod counts;
 pub mod cycle;
+pub mod damage;
 pub mod drive;
 pub mod fields;
 pub mod flag;
 pub mod generator;
 pub mod hall;
+pub mod image;
+pub mod image_rows;
+pub mod input;
 pub mod line;
 pub mod load;
 pub mod program;
@@ -44,6 +61,7 @@ pub mod random;
 pub mod reached;
 pub mod record;
 pub mod settings;
+pub mod sketch;
 pub mod state;
 pub mod tick;
 pub mod tick_fields;

@@ -5,7 +5,7 @@ use crate::state::NAMES;
 
 pub const LINE_LENGTH: usize = 45;
 
-const NO_LINE: u8 = Refusal::NoLine as u8;
+const NO_LINE: u8 = Refusal::NoLineOrImage as u8;
 
 /// Writes the line of an answer into lent bytes; gives number and place.
 ///

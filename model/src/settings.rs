@@ -261,7 +261,9 @@ impl Settings {
     }
 
     /// "A flag is live if its FaultEnable bit is 1; 0 and 1 are always live."
+    /// M-102: "flag 12, always live".
     pub fn live_bits(&self) -> i64 {
-        self[FaultEnable] | Flag::GateKill.bit() | Flag::CriticalOverVoltage.bit()
+        let never_masked = Flag::NEVER_MASKED.into_iter();
+        never_masked.fold(self[FaultEnable], |bits, flag| bits | flag.bit())
     }
 }

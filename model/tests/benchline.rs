@@ -3,7 +3,8 @@
 mod common;
 
 use common::{with_sensors, EXAMPLE};
-use model::bench_stream::{bench_stream, BenchReached};
+use model::bench_reached::BenchReached;
+use model::bench_stream::bench_stream;
 use model::benchline::{run, BenchRecord};
 use model::Record;
 
@@ -106,5 +107,5 @@ fn forty_seeds_reach_all_of_the_list() {
         reached.add_stream(&bench_stream(seed, 3_000));
     }
     reached.add_stream(&bench_stream(4, 150_000));
-    assert_eq!(reached.at_zero(), [""; 0]);
+    assert_eq!(reached.at_zero(), Vec::<String>::new());
 }

@@ -122,6 +122,9 @@ fn unknown_record_ends_the_run() {
     input.push(b'l');
     input.extend(bytes(&[cycle_record(1), cycle_record(3)]));
     assert_eq!(lines(&input), format!("0 {STOP}6 {STOP}"));
+    // "only the records L, C, T and (from M-101) M exist" here: the B of M-102
+    // is a letter of `benchline`.
+    assert_eq!(lines(b"B\0\0\0"), format!("6 {IDLE}"));
     assert_eq!(lines(b"X"), format!("6 {IDLE}"));
     assert_eq!(lines(b"\n"), format!("6 {IDLE}"));
     assert_eq!(lines(b"m"), format!("6 {IDLE}"));

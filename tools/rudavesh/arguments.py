@@ -4,9 +4,9 @@ the usage on standard error and ends with 2. Either is told before anything is r
 import argparse
 
 
-def parser_of(name: str, description: str, after: str = "") -> argparse.ArgumentParser:
-    """The parser of the command tools/NAME; its description tells the exit statuses."""
-    return argparse.ArgumentParser(prog=f"tools/{name}", description=description, epilog=after, allow_abbrev=False,
+def parser_of(name: str, description: str, after: str = "", folder: str = "tools/") -> argparse.ArgumentParser:
+    """The parser of the command tools/NAME, or NAME in another folder; its description tells the exit statuses."""
+    return argparse.ArgumentParser(prog=f"{folder}{name}", description=description, epilog=after, allow_abbrev=False,
                                    formatter_class=argparse.RawDescriptionHelpFormatter)  # fmt: skip
 
 

@@ -1,6 +1,6 @@
-"""Runs the proved programs, shiftline and benchline, and the independent model (model/, written from documents 01 and 02 and the page on
-bench formats alone) over the same generated records, and counts the lines in which they differ. Default: 40 seeds of 25,000 records, and
-three of 150,000 for what is slow.
+"""Runs the proved programs, shiftline, benchline and blockline, and the independent model (model/, written from documents 01 and 02 and the
+page on bench formats alone) over the same generated records, and counts the lines in which they differ. Default: 40 seeds of 25,000
+records, and three of 150,000 for what is slow; of blockline, whose records are longer, a tenth of these.
 Exit status: 0 no line differs; 1 some do, or a write failed; 2 wrong use, cargo or the kit is missing, or one of the programs failed."""
 
 import re
@@ -17,20 +17,23 @@ from .places import TOOLS
 
 SEEDS, RECORDS = 40, 25_000
 LONG_SEEDS, LONG_RECORDS = (4, 7, 9), 150_000
-SHOWN_OF_REACHED = re.compile("streams|records|listed|counted|at zero|benchline")
+SHOWN_OF_REACHED = re.compile("streams|records|listed|counted|at zero|benchline|blockline")
 
 
 class Compared(NamedTuple):
-    """A proved program by the tools' word for it, the records that it is run on, and its lines by the model."""
+    """A proved program by the tools' word for it, the records that it is run on, its lines by the model, and what streams reach."""
 
     word: str
     generated: Callable[[int, int], bytes]
     lines: Callable[[bytes], bytes]
+    reached: Callable[[List[Path]], List[str]]
+    share: int = 1  # of so many records that are asked for, one is made: where a record holds a whole image, they are long
 
 
-BOTH = [
-    Compared("shiftline", model.generated, model.lines),
-    Compared("benchline", model.generated_for_bench, model.bench_lines),
+PROGRAMS = [
+    Compared("shiftline", model.generated, model.lines, model.reached),
+    Compared("benchline", model.generated_for_bench, model.bench_lines, model.bench_reached),
+    Compared("blockline", model.generated_for_blocks, model.block_lines, model.blocks_reached, share=10),
 ]
 
 
@@ -49,7 +52,7 @@ def difference(expected: Path, found: Path) -> List[str]:
 def compare(work: Path, program: Compared, seed: int, records: int) -> Tuple[int, int]:
     """Lines compared, and lines that differ, of the stream of one seed."""
     stream, by_model, by_program = work / f"{program.word}.{seed}.{records}", work / "model", work / "proved"
-    stream.write_bytes(program.generated(seed, records))
+    stream.write_bytes(program.generated(seed, max(1, records // program.share)))
     by_model.write_bytes(program.lines(stream.read_bytes()))
     by_program.write_bytes(proved(program.word, stream))
     compared = by_model.read_bytes().count(b"\n")
@@ -78,9 +81,10 @@ def main() -> int:
     model.build()
     with tempfile.TemporaryDirectory() as folder:
         work = Path(folder)
-        counts = [compare(work, program, seed, records) for program in BOTH for seed, records in todo]
-        reached = model.reached(sorted(work.glob("shiftline.*"))) + model.bench_reached(sorted(work.glob("benchline.*")))
-        print(*(line for line in reached if SHOWN_OF_REACHED.match(line)), sep="\n")
+        counts = [compare(work, program, seed, records) for program in PROGRAMS for seed, records in todo]
+        for program in PROGRAMS:
+            reached = program.reached(sorted(work.glob(f"{program.word}.*")))
+            print(*(line for line in reached if SHOWN_OF_REACHED.match(line)), sep="\n")
     different = sum(count for _, count in counts)
     print(f"{sum(count for count, _ in counts)} lines compared, {different} differences")
     return 1 if different else 0

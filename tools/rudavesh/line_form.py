@@ -9,7 +9,7 @@ from typing import Any, Callable, NamedTuple, Optional
 # By their numbers.
 STATES = ("IDLE", "STOP", "OFFSETCAL", "BTSCHARGE", "MOTORRUN", "FAULT", "CATCHSPIN", "PARKING", "OPENLOOP", "ANGLESENSING")
 GATES = ("off", "charge", "drive", "brake (low sides on)")
-# The bits of the live word that have a meaning.
+# The bits of the live word that the calls of `shiftline` set.
 BITS = {
     0: "gate kill",
     1: "critical over-voltage",
@@ -21,6 +21,9 @@ BITS = {
     14: "Hall time-out",
     15: "Hall pattern",
 }
+# Those that the block load sets, a call of `benchline` alone. Always live, and only in IDLE.
+BITS_OF_BLOCKS = {12: "stored block refused"}
+ALL_BITS = {**BITS, **BITS_OF_BLOCKS}
 BITS_OF_THE_WORD = 16
 REFUSALS = {
     1: "field out of range",
@@ -28,6 +31,9 @@ REFUSALS = {
     3: "cycle or tick in IDLE",
     4: "load while not stopped",
     6: "unknown or short",
+    7: "image malformed",
+    8: "block above 14",
+    9: "block empty",
 }
 MOST_NUMBER = 15  # one digit
 

@@ -32,13 +32,23 @@ def lines(stream: bytes) -> bytes:
 
 
 def generated_for_bench(seed: int, records: int) -> bytes:
-    """The same for `benchline`: with loads of any length among the records."""
+    """The same for `benchline`: with loads of any length and block loads among the records."""
     return subprocess.run([PROGRAMS / "generate_bench", str(seed), str(records)], stdout=subprocess.PIPE, check=True).stdout
 
 
 def bench_lines(stream: bytes) -> bytes:
     """The lines that the model of `benchline` gives for a stream of records."""
     return subprocess.run([PROGRAMS / "benchline_model"], input=stream, stdout=subprocess.PIPE, check=True).stdout
+
+
+def generated_for_blocks(seed: int, records: int) -> bytes:
+    """The same for `blockline`: images to read, counts to choose by, blocks to write."""
+    return subprocess.run([PROGRAMS / "generate_blocks", str(seed), str(records)], stdout=subprocess.PIPE, check=True).stdout
+
+
+def block_lines(stream: bytes) -> bytes:
+    """The lines that the model of `blockline` gives for a stream of records."""
+    return subprocess.run([PROGRAMS / "blockline_model"], input=stream, stdout=subprocess.PIPE, check=True).stdout
 
 
 def reached(streams: List[Path]) -> List[str]:
@@ -49,4 +59,10 @@ def reached(streams: List[Path]) -> List[str]:
 def bench_reached(streams: List[Path]) -> List[str]:
     """The same for `benchline`."""
     done = subprocess.run([PROGRAMS / "reached_bench", *streams], stdout=subprocess.PIPE, check=True, text=True)
+    return done.stdout.splitlines()
+
+
+def blocks_reached(streams: List[Path]) -> List[str]:
+    """The same for `blockline`."""
+    done = subprocess.run([PROGRAMS / "reached_blocks", *streams], stdout=subprocess.PIPE, check=True, text=True)
     return done.stdout.splitlines()

@@ -43,10 +43,15 @@ class Field(NamedTuple):
     note: str = ""  # only --help shows it
 
     @property
-    def paper(self) -> str:
+    def rule(self) -> str:
         """The range that the paper allows, in its words."""
         ends = "any" if self.range is None else f"{self.range[0]}..{self.range[1]}"
-        return ends + (f", {self.relation.words} {self.relation.other}" if self.relation else "") + self.note
+        return ends + (f", {self.relation.words} {self.relation.other}" if self.relation else "")
+
+    @property
+    def paper(self) -> str:
+        """The same, with what --help says of it."""
+        return self.rule + self.note
 
     @property
     def held(self) -> Tuple[int, int]:

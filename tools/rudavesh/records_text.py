@@ -4,40 +4,20 @@ import difflib
 import io
 import re
 from dataclasses import dataclass, field
-from typing import BinaryIO, Dict, List, NamedTuple, Tuple, Union
+from pathlib import Path
+from typing import BinaryIO, Dict, Iterator, List, NamedTuple, Optional, Tuple, Union
 
-from .record_form import ALL_KINDS, KINDS, LIMITS, LOAD, LOAD_WITH_SENSORS, TICK, Kind
+from .image_form import MOST_OF_A_RECORD, image_record, read_image
+from .record_form import ALL_KINDS, KINDS, LIMITS, LOAD, LOAD_WITH_SENSORS, Kind
 
-DEEPEST_BLOCK = 16
+DEEPEST_REPEAT = 16
 PIECE = 65536  # bytes of a repeat that are made and written at once
 COUNT = (1, 1_000_000_000, "repeat")
 KIND_OF_WORD = {**{kind.letter.lower(): kind for kind in ALL_KINDS}, **{kind.word: kind for kind in KINDS}}
-WORDS = [kind.word for kind in KINDS] + ["raw", "repeat"]
+BLOCK, BLOCK_LETTER = "block", "B"
+WORDS = [kind.word for kind in KINDS] + [BLOCK, "raw", "repeat"]
 
-# What people read of it in --help.
-DESCRIPTION = f"""The text has one record to a line; '#' begins a comment:
-
-  load ControlMode=1 TCatchSpin=5   settings by name, or all {len(LOAD.fields)} as plain numbers: record {LOAD.letter}
-  load sensors=2 TCatchSpin=5       with sensors, or {len(LOAD_WITH_SENSORS.fields)} plain numbers: record {LOAD_WITH_SENSORS.letter}
-  cycle 3 2048 2048                 plain numbers, or pattern=3 first=2048 second=2048
-  tick command=1 speed=600          by name, or all {len(TICK.fields)} as plain numbers
-  raw 58 01                         bytes as they are, in hexadecimal
-  repeat 10000 tick speed=0         the same record many times
-  repeat 3 {{                        a block many times; blocks may nest
-    cycle 3
-    tick
-  }}
-
-{', '.join(kind.letter for kind in KINDS[:-1])} and {KINDS[-1].letter} stand for \
-{', '.join(kind.word for kind in KINDS[:-1])} and {KINDS[-1].word}, {LOAD_WITH_SENSORS.letter} for a load with sensors,
-which {LOAD.letter} with sensors becomes, too.
-Case, '_' and '-' in names do not matter.
-Numbers are decimal or 0x hexadecimal. A value that fits the bytes of its record is
-written even where the paper forbids it: refusing it is the supervisor's work.
-An error is told as FILE:LINE:COLUMN: and leaves standard output empty.
-Exit status: 0 written, or until whoever reads had enough; 1 errors in the text, or a write that
-failed; 2 wrong use, an unreadable file, or text in UTF-16.
-"""
+Error = Tuple[int, int, str]  # line, column, message
 
 
 class Record(NamedTuple):
@@ -95,10 +75,11 @@ def read_field(kind: Kind, place: int, word: Word) -> int:
     return read_number(word, one.name, LIMITS[one.form])
 
 
-def read_named(kind: Kind, words: List[Word]) -> Record:
+def read_named(kind: Kind, words: List[Word], before: Optional[Dict[int, int]] = None) -> Record:
+    """Read fields by name, beside those that a line before gave."""
     wide = kind.wider or kind
     places = {plain(one.name): place for place, one in enumerate(wide.fields)}
-    given: Dict[int, int] = {}
+    given: Dict[int, int] = dict(before or {})
     for word in words:
         name, equals, value = word.text.partition("=")
         if not (name and equals and value):
@@ -139,7 +120,25 @@ def read_raw(words: List[Word], end: int) -> bytes:
     return bytes.fromhex("".join(word.text for word in words))
 
 
-def read_step(words: List[Word], end: int) -> Union[Record, bytes]:
+def read_block(words: List[Word], end: int, folder: Path) -> bytes:
+    """Read the load of a stored block; the path of its image begins at a folder."""
+    if len(words) != 2:
+        at = words[2].column if len(words) > 2 else end
+        raise TextError(at, f"{BLOCK} takes a block and the path of an image, one word, such as: {BLOCK} 3 pumps.image")
+    block = read_number(words[0], BLOCK, LIMITS["B"])
+    file = folder / words[1].text
+    try:
+        image = read_image(file)
+    except OSError as error:
+        raise TextError(words[1].column, f"{file}: {error.strerror}") from error
+    except ValueError as error:  # a letter that no path has
+        raise TextError(words[1].column, "this is no path of a file") from error
+    if len(image) > MOST_OF_A_RECORD:
+        raise TextError(words[1].column, f"{file} is longer than {MOST_OF_A_RECORD} bytes, and record {BLOCK_LETTER} takes no more")
+    return image_record(BLOCK_LETTER, block, image)
+
+
+def read_step(words: List[Word], end: int, folder: Path) -> Union[Record, bytes]:
     """Read a record or raw bytes; `end` is the column after the last word."""
     first, rest = words[0], words[1:]
     for word in words:
@@ -152,57 +151,81 @@ def read_step(words: List[Word], end: int) -> Union[Record, bytes]:
         return read_named(kind, rest)
     if first.text.lower() == "raw":
         return read_raw(rest, end)
+    if first.text.lower() in (BLOCK, BLOCK_LETTER.lower()):
+        return read_block(rest, end, folder)
+    if "=" in first.text:
+        raise TextError(first.column, "NAME=VALUE stands behind the word of its record, or after a load in lines of their own")
     known = [word for word in WORDS if word != first.text]
     raise TextError(first.column, f"'{first.text}' is no record; " + nearest(first.text, known))
 
 
-def read_repeat(repeat: Repeat, words: List[Word], end: int, blocks: List[Repeat]) -> None:
+def read_repeat(repeat: Repeat, words: List[Word], end: int, repeats: List[Repeat], folder: Path) -> None:
     opens = "{" in (word.text for word in words)
     if opens:
         # Before its head is judged: a wrong head must not put the blame on its }.
-        blocks.append(repeat)
+        repeats.append(repeat)
     if len(words) < 3:
         raise TextError(end, "repeat needs a count and a record or {, such as: repeat 3 tick")
     repeat.count = read_number(words[1], "count", COUNT)
     if not opens:
-        repeat.body.append(read_step(words[2:], end))
-        blocks[-1].body.append(repeat)
+        repeat.body.append(read_step(words[2:], end, folder))
+        repeats[-1].body.append(repeat)
     elif words[2].text != "{" or len(words) > 3:
-        raise TextError(words[3].column, "write repeat COUNT { and the block from the next line on")
-    elif len(blocks) > DEEPEST_BLOCK + 1:
-        raise TextError(words[0].column, f"blocks nest at most {DEEPEST_BLOCK} deep")
+        raise TextError(words[3].column, "write repeat COUNT { and what it repeats from the next line on")
+    elif len(repeats) > DEEPEST_REPEAT + 1:
+        raise TextError(words[0].column, f"repeats nest at most {DEEPEST_REPEAT} deep")
 
 
-def read_line(number: int, words: List[Word], blocks: List[Repeat]) -> None:
+def is_load(word: Word) -> bool:
+    return KIND_OF_WORD.get(word.text.lower()) in (LOAD, LOAD_WITH_SENSORS)
+
+
+def goes_on(words: List[Word], body: list) -> bool:
+    """Whether a line goes on with the load of the line before it. Only loads do: a tick that was forgotten must not change another."""
+    return "=" in words[0].text and bool(body) and isinstance(body[-1], Record) and body[-1].kind.word == LOAD.word
+
+
+def read_line(number: int, words: List[Word], repeats: List[Repeat], folder: Path) -> None:
     end = words[-1].column + len(words[-1].text)
     if words[0].text.lower() == "repeat":
-        read_repeat(Repeat(number, words[0].column), words, end, blocks)
-    elif words[0].text == "}" and len(blocks) == 1:
-        raise TextError(words[0].column, "this } closes no block")
+        read_repeat(Repeat(number, words[0].column), words, end, repeats, folder)
+    elif goes_on(words, repeats[-1].body):
+        load = repeats[-1].body[-1]
+        repeats[-1].body[-1] = read_named(load.kind, words, load.given)
+    elif words[0].text == "}" and len(repeats) == 1:
+        raise TextError(words[0].column, "this } closes no repeat")
     elif words[0].text == "}":
-        block = blocks.pop()
-        if block.body:
-            blocks[-1].body.append(block)
+        closed = repeats.pop()
+        if closed.body:
+            repeats[-1].body.append(closed)
         if len(words) > 1:
             raise TextError(words[1].column, "nothing may follow }")
     else:
-        blocks[-1].body.append(read_step(words, end))
+        repeats[-1].body.append(read_step(words, end, folder))
 
 
-def read_text(text: str) -> Tuple[Repeat, List[Tuple[int, int, str]]]:
-    """Give the whole text as a block done once, and its errors: line, column, message."""
-    blocks = [Repeat(0, 0)]  # the whole text, then the blocks that are open
-    errors: List[Tuple[int, int, str]] = []
+def lines_of(text: str) -> Iterator[Tuple[int, List[Word]]]:
+    """The lines of a text that hold more than a comment: their numbers and words."""
     for number, line in enumerate(text.split("\n"), start=1):
         found = re.finditer(r"[{}]|[^\s{}]+", line.partition("#")[0])
         words = [Word(match.start() + 1, match.group()) for match in found]
+        if words:
+            yield number, words
+
+
+def read_text(text: str, folder: Path = Path()) -> Tuple[Repeat, List[Error]]:
+    """Give the whole text as a repeat done once, and its errors. Paths in it begin at the folder."""
+    repeats = [Repeat(0, 0)]  # the whole text, then the repeats that are open
+    errors: List[Error] = []
+    for number, words in lines_of(text):
         try:
-            if words:
-                read_line(number, words, blocks)
+            read_line(number, words, repeats, folder)
         except TextError as error:
             errors.append((number, error.column, str(error)))
-    errors += [(block.line, block.column, "this repeat has no closing }") for block in blocks[1:]]
-    return blocks[0], sorted(errors)
+            if is_load(words[0]):
+                repeats[-1].body.append(Record(LOAD, {}))  # so that the lines that go on with it are not blamed
+    errors += [(repeat.line, repeat.column, "this repeat has no closing }") for repeat in repeats[1:]]
+    return repeats[0], sorted(errors)
 
 
 def write_body(body: list, kept: Dict[str, List[int]], output: BinaryIO) -> None:

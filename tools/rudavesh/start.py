@@ -1,4 +1,4 @@
-"""start.py NAME ARGUMENT ...: runs the tool of that name, as the command tools/NAME does.
+"""start.py NAME ARGUMENT ...: runs the tool of that name, as the command tools/NAME does; ./NAME is a command at the root.
 
 What every command owes whoever uses it stands here once: an interrupt, a reader that closes, a disk that is full and a command below it
 that fails end it with one sentence or none, and never with a traceback."""
@@ -31,8 +31,9 @@ def give_up_output() -> None:
 
 
 def main() -> int:
-    name = f"tools/{sys.argv[1]}"
-    tool = import_module(f"rudavesh.{sys.argv[1]}")
+    at_the_root = sys.argv[1].startswith("./")
+    name = sys.argv[1][2:] if at_the_root else f"tools/{sys.argv[1]}"
+    tool = import_module(f"rudavesh.{Path(name).name}")
     sys.argv = [name, *sys.argv[2:]]
     if sys.stdout is None:
         sys.exit(f"{name}: standard output is closed.")

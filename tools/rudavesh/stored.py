@@ -11,7 +11,7 @@ from typing import Callable, Dict, List, NamedTuple
 
 from . import model
 from .arguments import parser_of
-from .expected import Files, benchline, generated, hall_pairs, judge_example
+from .expected import Files, benchline, blockline, generated, hall_pairs, judge_example
 from .expected import report_lines, shiftline_example, splits, why_story
 from .places import ROOT, program_folder
 
@@ -28,6 +28,7 @@ STORED: Dict[str, Stored] = {
     "shiftline": Stored(shiftline_example.files, by_the_model=False),
     "why": Stored(why_story.files, by_the_model=False),
     "benchline": Stored(benchline.files, by_the_model=True),
+    "blockline": Stored(blockline.files, by_the_model=True),
     "judge": Stored(judge_example.files, by_the_model=False),
     "splits": Stored(splits.files, by_the_model=True),
     "hall_pairs": Stored(hall_pairs.files, by_the_model=False),

@@ -60,7 +60,7 @@ def draw(runs: List[Span], title: str, width: int, longest: int, marks: Optional
     moved = [(run.value.position - runs[0].value.position + 2**31) % 2**32 - 2**31 for run in runs]
     live = [row for bit in range(line_form.BITS_OF_THE_WORD) for row in rows_of(
         spans_of(runs, lambda report: report.live >> bit & 1),
-        {1: (f"{line_form.BITS.get(bit, 'unnamed')} \u00b7 {bit}", RED)})]
+        {1: (f"{line_form.ALL_BITS.get(bit, 'unnamed')} \u00b7 {bit}", RED)})]
     refused = rows_of(spans_of(runs, lambda report: report.number), REFUSALS)
     picture.rows("State", "state", 20, rows_of(states, STATES))
     picture.rows("Gates", "gate", 18, rows_of(spans_of(runs, lambda report: report.gate), GATES))

@@ -14,6 +14,11 @@ def is_utf16(front: bytes) -> bool:
     return bool(IN_UTF16.match(front))
 
 
+def printable(text: str) -> str:
+    """A text as a terminal can show it in one line: what would move its cursor is replaced."""
+    return "".join(letter if letter.isprintable() else "\ufffd" for letter in text)
+
+
 class InUtf16(Exception):
     """Lines were to be read, and they are text in UTF-16."""
 

@@ -1,12 +1,15 @@
-# Behind ./shiftline, ./benchline and ./why: what is given, whether it is text or bytes, and the run of the proved program over it.
+# Behind ./shiftline, ./benchline, ./why and ./blockline: what is given, whether it is text or bytes, and the run of the proved program
+# over it.
 
 set -u -o pipefail
 root=$(dirname "$(dirname "$(dirname "$(readlink -f "${BASH_SOURCE[0]}")")")")
 . "$root/tools/shell/proved.bash"
 
-READING="FILE holds records, as text (tools/records --help tells the form) or as bytes, whatever its name is:
-its first line shows which. Without FILE, or where it is -, they come by standard input.
-The first run, and the first one after a change of the sources, proves and builds the program.
+TEXT_OR_BYTES="FILE holds records, as text (tools/records --help tells the form) or as bytes, whatever its name is:
+its first line shows which. Without FILE, or where it is -, they come by standard input."
+BYTES_ALONE="FILE holds records as bytes; these have no text form. Without FILE, or where it is -, they come by standard input."
+READING=$TEXT_OR_BYTES
+COMMON="The first run, and the first one after a change of the sources, proves and builds the program.
 
   -h, --help    this text
   --version     one line: the program, a hash of its sources, the kit that it is proved with
@@ -21,7 +24,9 @@ LOOK=64
 
 # Looks at standard input until it shows what it is, and leaves that in `kind` (bytes, text, utf16) and what was read in `front`, as
 # printf takes it. Every accepted record has a control byte behind its letter that no text has: below 9, or the 24 or 25 of a load by N.
-# So two bytes tell a record that the supervisor accepts, and nobody waits for more. Else the first line is read, LOOK bytes at most.
+# So two bytes tell a record that the supervisor accepts, and nobody waits for more; of a B with block 9 to 13, whose bytes are the blanks
+# and line ends of a text, it is three: its length, 2048 at most, begins with a byte below 9. Else the first line is read, LOOK bytes at
+# most.
 look() {
     local LC_ALL=C byte code digits='' count=0 control='' comment=''
     front='' kind=''
@@ -35,7 +40,7 @@ look() {
         case $code in
         0[0-8ef] | 1? | 7f) control=yes ;;
         23) comment=yes ;;
-        0a) [ "$count" -eq 1 ] || kind=text ;;
+        0a) [ "$count" -eq 1 ] || [ "$digits" = 420a ] || kind=text ;; # a B and block 10
         [89a-f]?) [ "$count" -eq 1 ] || [ -n "$comment" ] || [[ $digits != [45]* ]] || kind=bytes ;; # behind a capital
         esac
         case $digits in
@@ -62,6 +67,8 @@ whole_input() {
 # The records of a text. The converter has read all of it, and told its errors, before it writes the first byte.
 converted_input() { whole_input | "$root/tools/records" --named="$name" -; }
 
+from_terminal() { say "reading text from the terminal; Ctrl-D ends it."; }
+
 # Makes a file standard input, where it is not that already; `name` is what messages call it.
 open_input() { # FILE
     name=$1
@@ -69,7 +76,7 @@ open_input() { # FILE
         name='<stdin>'
         need_input
         [ ! -d /dev/stdin ] || fail 2 "standard input is a directory, and no file of records."
-        [ ! -t 0 ] || say "reading text from the terminal; Ctrl-D ends it."
+        [ ! -t 0 ] || from_terminal
         return
     fi
     [ -e "$1" ] || fail 2 "there is no file '$1'."
@@ -103,7 +110,7 @@ read_arguments() { # WORD MOST ARGUMENT ...
     files=()
     for argument; do
         case $options:$argument in
-        yes:-h | yes:--help) printf '%s\n\n%s\n' "$usage" "$READING"; exit ;;
+        yes:-h | yes:--help) printf '%s\n\n%s\n%s\n' "$usage" "$READING" "$COMMON"; exit ;;
         yes:--version) version "$word"; exit ;;
         yes:--) options= ;;
         yes:-?*) wrong_use "unknown option $argument" ;;
@@ -141,4 +148,18 @@ launch() { # WORD JUDGE ARGUMENT ...
     [ "$kind" != text ] || command -v python3 >/dev/null || fail 2 "python3 is missing: it turns the text of $name into records."
     make_ready "$word"
     if [ "$kind" = text ]; then "$run" converted_input; else "$run" whole_input; fi
+}
+
+# Runs the program WORD over the bytes of a file. What they are is not looked at: whatever is no record, the program says so.
+launch_bytes() { # WORD ARGUMENT ...
+    command=$1
+    # No text is read, and so nothing is said of errors in it.
+    READING=$BYTES_ALONE COMMON=${COMMON/an error in the text, /}
+    COMMON=${COMMON/, text in UTF-16, or the kit or python3 is missing/, or the kit is missing}
+    from_terminal() { fail 2 "its records are bytes, which nobody types: give a FILE."; }
+    read_arguments "$1" 1 "${@:2}"
+    look_at_descriptors
+    open_input "${files[0]--}"
+    make_ready "$1"
+    run_program
 }

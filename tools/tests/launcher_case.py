@@ -7,6 +7,7 @@ import re
 import shutil
 import subprocess
 import tempfile
+import time
 import unittest
 from pathlib import Path
 from typing import Dict, List
@@ -57,6 +58,14 @@ def write(folder: Path, files: Dict[str, str]) -> None:
             file.chmod(0o755)
 
 
+def wait_for(file: Path) -> None:
+    until = time.monotonic() + TIMEOUT
+    while not file.exists():
+        if time.monotonic() > until:
+            raise TimeoutError(file)
+        time.sleep(0.02)
+
+
 class Case(unittest.TestCase):
     def setUp(self) -> None:
         folder = tempfile.TemporaryDirectory()
@@ -64,7 +73,7 @@ class Case(unittest.TestCase):
         self.room = Path(folder.name)
         self.root, self.kit, self.calls, self.hold = (self.room / name for name in ("a tree", "a kit", "calls", "hold"))
         shutil.copytree(TOOLS, self.root / "tools", ignore=shutil.ignore_patterns("tests", "__pycache__"))
-        for name in ("shiftline", "benchline", "why"):
+        for name in ("shiftline", "benchline", "why", "blockline", "image"):
             shutil.copy(ROOT / name, self.root / name)
         write(self.root, FILES)
         # The gate gives its tests what rt leaves of the processors: a build that waits for them must not say so here.

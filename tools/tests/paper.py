@@ -1,6 +1,7 @@
 """Records and lines in the paper's numbers, typed from documents 01 and 02: what the tests hold the package to takes nothing from it."""
 
 import struct
+from typing import Dict, List
 
 # Document 01: "L 0,65535,3000,..." in its own example.
 PAPER_LOAD = [0, 65535, 3000, 1000, 3500, 3500, 100, 800, 100, 0, 600, 64, 4095, 7, 3, 0, 300,
@@ -21,6 +22,30 @@ def load(*values: int) -> bytes:
 def load_with_sensors(*values: int) -> bytes:
     """M-101: "A program record M carries 25." """
     return b"M" + struct.pack(">9Hh15H", *values)
+
+
+def body(numbers: List[int]) -> bytes:
+    """M-102: "24 or 25 numbers, high byte first"; a signed one in two's complement."""
+    return b"".join(bytes(divmod(number % 65536, 256)) for number in numbers)
+
+
+def image(blocks: Dict[int, List[int]]) -> bytes:
+    """M-102: "First come 15 entries of kind (0 empty, 1 filled; one byte), then offset and length in bytes, two bytes each, high first.
+    The bodies follow in block order without gaps". "An empty entry is all zeros, offsets count from the image's first byte"."""
+    entries, bodies = b"", b""
+    for block in range(15):
+        if block in blocks:
+            here = body(blocks[block])
+            entries += b"\x01" + bytes(divmod(75 + len(bodies), 256)) + bytes(divmod(len(here), 256))
+            bodies += here
+        else:
+            entries += bytes(5)
+    return entries + bodies
+
+
+def block_load(block: int, given: bytes) -> bytes:
+    """Record B of benchline: block, length, so many bytes."""
+    return b"B" + bytes([block]) + bytes(divmod(len(given), 256)) + given
 
 
 def cycle(*values: int) -> bytes:

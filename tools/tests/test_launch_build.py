@@ -2,24 +2,15 @@
 
 import os
 import signal
-import time
 import unittest
 from pathlib import Path
 
 from .commands import TIMEOUT
-from .launcher_case import COPIES, Case, write
+from .launcher_case import COPIES, Case, wait_for, write
 from .paper import tick
 
 # Runs on only when four of it are there.
 MEETS = 'touch "$TMPDIR/$$"\nwhile [ "$(ls "$TMPDIR" | wc -l)" -lt 4 ]; do sleep 0.05; done\necho met\n'
-
-
-def wait_for(file: Path) -> None:
-    until = time.monotonic() + TIMEOUT
-    while not file.exists():
-        if time.monotonic() > until:
-            raise TimeoutError(file)
-        time.sleep(0.02)
 
 
 class FourAtOnce(Case):

@@ -10,8 +10,8 @@ import unittest
 from pathlib import Path
 
 from .commands import TIMEOUT
-from .launcher_case import Case, write
-from .paper import PAPER_LOAD, cycle, load, load_with_sensors, tick
+from .launcher_case import COPIES, Case, write
+from .paper import PAPER_LOAD, block_load, cycle, image, load, load_with_sensors, tick
 
 TEXT = b"tick speed=600\n"
 RECORD = tick(speed=600)
@@ -19,7 +19,7 @@ RECORD = tick(speed=600)
 
 class Arguments(Case):
     def test_help_names_the_exit_statuses_and_builds_nothing(self):
-        for name in ("shiftline", "benchline", "why", "tools/run"):
+        for name in ("shiftline", "benchline", "why", "blockline", "tools/run"):
             for word in ("-h", "--help"):
                 done = self.run_it(name, word)
                 self.assertEqual((done.returncode, done.stderr), (0, b""))
@@ -30,8 +30,9 @@ class Arguments(Case):
         self.assertEqual(self.asked(), [])
 
     def test_surplus_arguments_and_unknown_options(self):
-        for name, arguments in (("shiftline", "a b"), ("benchline", "a b"), ("why", "a b c"), ("why", "- -"), ("shiftline", "--nonsense"),
-                                ("shiftline", "-x"), ("tools/run", ""), ("tools/run", "shiftline b"), ("tools/run", "-x")):  # fmt: skip
+        for name, arguments in (("shiftline", "a b"), ("benchline", "a b"), ("blockline", "a b"), ("why", "a b c"), ("why", "- -"),
+                                ("shiftline", "--nonsense"), ("shiftline", "-x"), ("blockline", "-x"), ("tools/run", ""),
+                                ("tools/run", "shiftline b"), ("tools/run", "-x")):  # fmt: skip
             done = self.run_it(name, *arguments.split())
             self.assertEqual((done.returncode, done.stdout), (2, b""), (name, arguments))
             self.assertIn(f"usage: {name}", done.stderr.decode())
@@ -101,7 +102,9 @@ class Input(Case):
         loads = (load(*PAPER_LOAD), load(0, *23 * [0x2020]), load_with_sensors(0, *24 * [0x2020]))
         loads += (b"N\x18" + 24 * b"  ", b"N\x19" + 25 * b"  ")
         cycles = (cycle(pattern, 0x2020, 0x0A0A) for pattern in (0, 7))
-        for content in (*loads, *cycles, blanks, b"", b"X", b"X\x01", b"T\xff" + 18 * b" ", b"\xc3\xa9", bytes(range(256))):
+        # Blocks 9 to 13 are bytes that stand in texts, too.
+        blocks = (block_load(block, given) for block in range(15) for given in (b"", image({3: PAPER_LOAD}), 2048 * b" "))
+        for content in (*loads, *cycles, *blocks, blanks, b"", b"X", b"X\x01", b"T\xff" + 18 * b" ", b"\xc3\xa9", bytes(range(256))):
             self.assertEqual(self.run_it("shiftline", given=content).stdout, content)
 
     def test_a_piece_that_shows_what_it_is_is_not_waited_behind(self):
@@ -155,6 +158,40 @@ class Input(Case):
         with open("/dev/full", "wb") as full:
             done = self.run_it("why", shift, self.file("lines", content), stdout=full)
             self.told(done, 1, "standard output cannot be written")
+
+
+class BytesAlone(Case):
+    """./blockline, whose records have no text form."""
+
+    def setUp(self) -> None:
+        super().setUp()
+        write(self.root, {"crates/program_blockline/src/main.rt": COPIES})
+        for name, line in (("crates.txt", "program_blockline: numbers\n"), ("tools/programs.txt", "blockline: program_blockline\n")):
+            with (self.root / name).open("a") as file:
+                file.write(line)
+        self.assertEqual(self.run_it("blockline").returncode, 0)
+
+    def test_whatever_comes_reaches_the_program_as_it_is(self):
+        for content in (b"A\x0f\xff", b"A\x20\x20", b"R\n\x00\x00", TEXT, "tick\n".encode("utf-16"), b"", bytes(range(256))):
+            self.assertEqual(self.run_it("blockline", given=content).stdout, content)
+            self.assertEqual(self.run_it("blockline", self.file("records", content)).stdout, content)
+
+    def test_its_help_says_nothing_of_text(self):
+        said = self.run_it("blockline", "--help").stdout.decode()
+        for part in ("error in the text", "UTF-16", "python3"):
+            self.assertNotIn(part, said)
+
+    def test_files_that_are_none_and_a_terminal(self):
+        self.told(self.run_it("blockline", self.room), 2, "is a directory")
+        self.told(self.run_it("blockline", self.room / "none"), 2, "there is no file")
+        try:
+            master, terminal = pty.openpty()
+        except OSError:
+            self.skipTest("no terminal can be opened here")
+        done = self.run_it("blockline", stdin=terminal)
+        os.close(terminal)
+        os.close(master)
+        self.told(done, 2, "its records are bytes, which nobody types")
 
 
 class NoPython(Case):

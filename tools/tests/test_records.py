@@ -1,12 +1,13 @@
 """Tests of `records`: the bytes that it writes."""
 
+import os
 import random
 import tempfile
 import unittest
 from pathlib import Path
 
 from .commands import run
-from .paper import PAPER_LOAD, SETTINGS, TICK_FIELDS, cycle, load, load_with_sensors, tick
+from .paper import PAPER_LOAD, SETTINGS, TICK_FIELDS, block_load, cycle, image, load, load_with_sensors, tick
 from .records_case import Case
 
 
@@ -130,6 +131,68 @@ class LeftOut(Case):
         values[0] = 1
         self.assertEqual(self.written("load ControlMode=1\nload"),
                          load(*values) + load(*PAPER_LOAD))
+
+
+class LoadsOfManyLines(Case):
+    def test_lines_that_begin_with_a_name_go_on_with_the_load_before(self):
+        values = list(PAPER_LOAD)
+        values[15], values[18] = 5, 7
+        for text in ("load\nTCatchSpin=5\nParkTime=7", "load TCatchSpin=5 # a\n\n# b\n\tParkTime=7\n", "l\nParkTime=7 TCatchSpin=5\r\n"):
+            self.assertEqual(self.written(text + "\ntick"), load(*values) + tick())
+
+    def test_with_sensors_in_any_line_it_is_record_m(self):
+        values = [*PAPER_LOAD, 2]
+        values[18] = 7
+        for text in ("load\nsensors=2\nParkTime=7", "load sensors=2\nParkTime=7", "M\nParkTime=7\nsensors=2"):
+            self.assertEqual(self.written(text), load_with_sensors(*values))
+
+    def test_within_a_repeat(self):
+        values = list(PAPER_LOAD)
+        values[18] = 7
+        self.assertEqual(self.written("repeat 2 {\n load\n  ParkTime=7\n}"), 2 * load(*values))
+
+
+class Blocks(unittest.TestCase):
+    """Loads of stored blocks, as a text names them."""
+
+    def setUp(self) -> None:
+        folder = tempfile.TemporaryDirectory()
+        self.addCleanup(folder.cleanup)
+        self.folder = Path(folder.name)
+        self.image = image({3: PAPER_LOAD})
+        (self.folder / "pumps.image").write_bytes(self.image)
+
+    def written(self, text: str, name: str) -> bytes:
+        file = self.folder / name
+        file.parent.mkdir(exist_ok=True)
+        file.write_text(text)
+        done = run("records", "", str(file))
+        self.assertEqual((done.returncode, done.stderr), (0, b""))
+        return done.stdout
+
+    def test_a_path_begins_at_the_folder_of_the_text(self):
+        self.assertEqual(self.written("tick\nblock 3 pumps.image\n", "run"), tick() + block_load(3, self.image))
+        self.assertEqual(self.written("BLOCK 0x0e ../pumps.image # x\nB 255 ../pumps.image", "below/run"),
+                         block_load(14, self.image) + block_load(255, self.image))
+        self.assertEqual(self.written(f"repeat 2 block 10 {self.folder}/pumps.image", "run"), 2 * block_load(10, self.image))
+
+    def test_by_standard_input_it_begins_at_the_current_folder_or_at_that_of_the_file_that_is_named(self):
+        before = Path.cwd()
+        os.chdir(self.folder)
+        self.addCleanup(os.chdir, before)
+        self.assertEqual(run("records", "block 3 pumps.image").stdout, block_load(3, self.image))
+        os.chdir(before)
+        self.assertEqual(run("records", "block 3 pumps.image", f"--named={self.folder / 'run'}").stdout, block_load(3, self.image))
+
+    def test_whatever_bytes_are_written_up_to_2048(self):
+        for content in (b"", b"tick\n", bytes(range(256)) * 8):
+            (self.folder / "x").write_bytes(content)
+            self.assertEqual(self.written("block 0 x", "run"), block_load(0, content))
+        (self.folder / "x").write_bytes(bytes(2049))
+        done = run("records", "block 0 x", f"--named={self.folder / 'run'}")
+        self.assertEqual((done.returncode, done.stdout), (1, b""))
+        self.assertIn(b"run:1:9: ", done.stderr)
+        self.assertIn(b"is longer than 2048 bytes", done.stderr)
 
 
 class Repeats(Case):

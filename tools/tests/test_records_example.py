@@ -1,35 +1,64 @@
-"""Tests of examples/: their records, and the states told in their comments, by the independent model or, with SHIFTLINE=/path/to/shiftline,
-by that program."""
+"""Tests of examples/: their records, and the states told in their comments, by the independent model or, with SHIFTLINE=/path/to/shiftline
+and BENCHLINE=/path/to/benchline, by these programs."""
 
 import os
 import re
 import subprocess
 import unittest
-from typing import List
+from pathlib import Path
+from typing import Callable, List, Tuple
 
 from rudavesh import model
 from rudavesh.places import ROOT
 
-from .commands import TIMEOUT
+from .commands import TIMEOUT, run
+from .paper import block_load
 from .records_case import Case
 
 EXAMPLES = ROOT / "examples"
 SIZES = {"L": 49, "M": 51, "C": 6, "T": 20}
 
 
-def lines_of(records: bytes) -> List[str]:
-    """The lines of SHIFTLINE, where it is given, or of the model."""
-    program = os.environ.get("SHIFTLINE")
+# Document 01, by their numbers.
+STATES = "IDLE STOP OFFSETCAL BTSCHARGE MOTORRUN FAULT CATCHSPIN PARKING OPENLOOP ANGLESENSING".split()
+
+
+def by_program(name: str, by_model: Callable[[bytes], bytes], records: bytes) -> List[str]:
+    """The lines of the program that the environment names, where it does, or of the model."""
+    program = os.environ.get(name)
     if not program:
         model.build()
-        return model.lines(records).decode("ascii").splitlines()
+        return by_model(records).decode("ascii").splitlines()
     done = subprocess.run([program], input=records, stdout=subprocess.PIPE, timeout=TIMEOUT, check=False)
     return done.stdout.decode("ascii").splitlines()
 
 
-class Records(Case):
+def lines_of(records: bytes) -> List[str]:
+    return by_program("SHIFTLINE", model.lines, records)
+
+
+def bench_lines_of(records: bytes) -> List[List[str]]:
+    return [line.split() for line in by_program("BENCHLINE", model.bench_lines, records)]
+
+
+def answers_of(file: Path, records: bytes) -> List[Tuple[int, str]]:
+    """Number and state after each record of an example. Loads of blocks are for benchline alone."""
+    if re.search(r"^block ", file.read_text(), re.M):
+        return [(int(words[0]), STATES[int(words[2])]) for words in bench_lines_of(records)]
+    return [(int(line[0], 16), line[2:14].rstrip(".")) for line in lines_of(records)]
+
+
+class Example(Case):
+    def records(self, file: Path) -> bytes:
+        """By its name, as people give it: a path in it begins at its folder."""
+        done = run("records", "", str(file))
+        self.assertEqual((done.returncode, done.stderr), (0, b""), file)
+        return done.stdout
+
+
+class Records(Example):
     def letters(self, name: str) -> str:
-        written = self.written((EXAMPLES / name).read_bytes())
+        written = self.records(EXAMPLES / name)
         place, letters = 0, ""
         while place < len(written):
             letters += chr(written[place])
@@ -48,24 +77,37 @@ class Records(Case):
         self.assertTrue(letters.startswith("MMT" + 64 * "C" + "TT"))
         self.assertNotIn("L", letters)
 
+    def test_of_the_blocks(self):
+        image = (EXAMPLES / "pumps.image").read_bytes()
+        first = block_load(0, (EXAMPLES / "pumps/small.txt").read_bytes())
+        self.assertTrue(self.records(EXAMPLES / "blocks.txt").startswith(first + block_load(15, image) + block_load(1, image)))
 
-@unittest.skipUnless(os.environ.get("SHIFTLINE") or model.can_be_built(), f"SHIFTLINE names no program, and {model.NO_CARGO}")
-class Told(Case):
+
+@unittest.skipUnless(os.environ.get("SHIFTLINE") and os.environ.get("BENCHLINE") or model.can_be_built(),
+                     f"SHIFTLINE or BENCHLINE names no program, and {model.NO_CARGO}")  # fmt: skip
+class Told(Example):
     def test_the_states_told_in_the_comments_and_the_refusals(self):
         for file in sorted(EXAMPLES.glob("*.txt")):
             with self.subTest(example=file.name):
                 text = file.read_text()
-                lines = lines_of(self.written(text))
+                answers = answers_of(file, self.records(file))
                 told = self.told(text)
-                self.assertEqual(len(lines), len(told))
-                for number, (line, state) in enumerate(zip(lines, told), start=1):
-                    self.assertIn(state, (None, line[2:14].rstrip(".")), f"record {number}: {line}")
+                self.assertEqual(len(answers), len(told))
+                for number, (answer, state) in enumerate(zip(answers, told), start=1):
+                    self.assertIn(state, (None, answer[1]), f"record {number}: {answer}")
                 refusals = [int(number) for number in re.findall(r"refused with (\d)", text)]
-                self.assertEqual([int(line[0], 16) for line in lines if line[0] != "0"], refusals)
+                self.assertEqual([number for number, _ in answers if number], refusals)
+
+    def test_the_blocks_show_flag_12_from_the_refused_block_to_the_accepted_one(self):
+        """M-102: "A body that it finds and load's own rules refuse in IDLE also sets flag 12, always live, until a load of either kind is
+        accepted". """
+        live = [words[4] for words in bench_lines_of(self.records(EXAMPLES / "blocks.txt"))]
+        self.assertEqual(live[:8], ["0", "0", "0", "4096", "4096", "4096", "4096", "0"])
+        self.assertEqual(set(live[7:]), {"0"})
 
     def test_the_small_pump_counts_six_a_turn_either_way(self):
         """M-101: "a full turn is six counts either way", by 1, 2, 1 and 2 from pattern 0 on."""
-        lines = lines_of(self.written((EXAMPLES / "small-pump.txt").read_text()))
+        lines = lines_of(self.records(EXAMPLES / "small-pump.txt"))
         shown = [int(line[29:37], 16) for line in lines]
         positions = [shown[0]] + [after for before, after in zip(shown, shown[1:]) if after != before]
         up = [6 * turn + step for turn in range(5) for step in (0, 1, 3, 4)]

@@ -4,7 +4,7 @@ import re
 import unittest
 
 from rudavesh import model, places, stored
-from rudavesh.expected import shiftline_example, why_story
+from rudavesh.expected import blockline, shiftline_example, why_story
 
 
 class StoredFiles(unittest.TestCase):
@@ -25,6 +25,11 @@ class StoredFiles(unittest.TestCase):
     def test_what_is_typed_for_shiftline_is_what_the_model_says(self):
         files = shiftline_example.files()
         self.assertEqual(model.lines(files["stdin"]).decode().splitlines(), files["stdout"].decode().splitlines())
+
+    @unittest.skipUnless(model.can_be_built(), model.NO_CARGO)
+    def test_what_is_worked_out_for_blockline_is_what_the_model_says(self):
+        files = blockline.files()
+        self.assertEqual(model.block_lines(files["stdin"]).decode().splitlines(), files["stdout"].decode().splitlines())
 
     @unittest.skipUnless(model.can_be_built(), model.NO_CARGO)
     def test_what_is_typed_for_why_is_refused_by_the_model_and_nothing_else(self):

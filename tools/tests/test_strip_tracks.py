@@ -53,7 +53,7 @@ class Tracks(Case):
     def test_a_row_for_each_bit_ever_live_with_its_meaning(self):
         meanings = {0: "gate kill", 1: "critical over-voltage", 2: "over-voltage",
                     3: "under-voltage", 4: "flux", 6: "over-temperature", 7: "rotor lock",
-                    14: "Hall time-out", 15: "Hall pattern"}
+                    12: "stored block refused", 14: "Hall time-out", 15: "Hall pattern"}
         for bit, meaning in meanings.items():
             root = self.drawn(line() + line(live=1 << bit) + line())
             self.assertEqual(self.hints(root, "live"), [f"{meaning} \u00b7 {bit}, 2 to 2"])

@@ -1,17 +1,17 @@
 -- `benchline` is a program of records, so that what `streams` shows of them holds of it.
 use mathlib.Core.Path.{_≡_}
-use mathlib.Core.List.{List, [], _∷_, _++_}
-use Prim.Native.Nat.{ℕ, zero, suc, _+_, _*_, _≤_, _<_}
+use mathlib.Core.List.{List, [], _∷_}
+use Prim.Native.Nat.{ℕ, _+_, _*_, _≤_, _<_}
 use native.Mathlib.Omega.{arith}
-use lib.ListN.{length, getD}
-use lib.Seq.{getD-drop}
+use lib.ListN.{length}
+use Rattle.numbers.proofs.Bytes.{Bytes, bytes-drop, bytes-append}
 use Rattle.drive.specs.AnyCall.{reply}
 use Rattle.records.proofs.Sizes.{at-least-shortest}
 use Rattle.streams.specs.Run.{end}
 use Rattle.streams.specs.Stream.{Lawful, Held, Roomy}
 use Rattle.streams.proofs.Stream.{by-the-shortest}
 use Rattle.streams.proofs.Grown.{none, few, within, still-unknown, still-whole}
-use Rattle.bench.specs.Table.{Record, as-in-shiftline, numbered, callOf, sizeOf, front}
+use Rattle.bench.specs.Table.{Record, as-in-shiftline, numbered, imaged, callOf, sizeOf, front}
 use Rattle.bench.specs.Line.{lineRoom}
 use Rattle.bench.specs.Benchline.{benchline, inputSize, outputSize, mostHeld}
 use Rattle.bench.proofs.Grown.{ReadOff, mostOf, no-front, grown}
@@ -20,6 +20,7 @@ use Rattle.bench.proofs.Lengths.{line-fits, refusal-fits}
 a-byte : (r : Record) → 0 < sizeOf r
 a-byte (as-in-shiftline call) = omega (arith, at-least-shortest call)
 a-byte (numbered given) = omega arith
+a-byte (imaged block image) = omega arith
 
 empty : (bytes : List ℕ) → length bytes ≡ 0 → front bytes ≡ end
 empty [] none = no-front
@@ -48,20 +49,11 @@ pub roomy : Roomy benchline lawful outputSize inputSize
 unfolding lawful
 roomy = let all : lineRoom * inputSize + 1 * lineRoom ≤ 1 * outputSize = omega arith in all
 
--- every number of the list is a byte
-abbrev pub Bytes : List ℕ → Type 0
-Bytes l = (i : ℕ) → getD l i 0 < 256
-
-pub append-bytes : (a b : List ℕ) → Bytes a → Bytes b → Bytes (a ++ b)
-append-bytes [] b of-a of-b i = of-b i
-append-bytes (x ∷ a) b of-a of-b zero = of-a 0
-append-bytes (x ∷ a) b of-a of-b (suc i) = append-bytes a b (λ i. of-a (suc i)) of-b i
-
 abbrev pub held : Held benchline mostHeld
 held =
     record {
       Sound = Bytes;
-      sound-drop = λ n bytes sound i. rw (getD-drop n bytes i 0) (sound _);
-      sound-append = append-bytes;
+      sound-drop = bytes-drop;
+      sound-append = bytes-append;
       part = λ bytes sound is. omega (arith, few benchline ReadOff mostOf grown bytes is, sound 1);
     }

@@ -4,17 +4,17 @@ use mathlib.Core.Bool.{true}
 use mathlib.Core.List.{List, []}
 use Prim.Native.Nat.{ℕ, _+_, _*_, _≤_, _<_}
 use native.Mathlib.Omega.{arith}
-use lib.ListN.{length}
-use Rattle.drive.specs.AnyCall.{loads, cycles, ticks}
+use lib.ListN.{length, take, drop}
+use Rattle.drive.specs.AnyCall.{loads, cycles, ticks, blockLoads}
 use Rattle.numbers.specs.Bytes.{byte, numbers}
 use Rattle.records.specs.Decoded.{loadSize, counts, settingsOf}
 use Rattle.records.proofs.Sizes.{size-of-load}
 use Rattle.numbers.proofs.Bytes.{length-numbers}
 use Rattle.streams.specs.Run.{Front, end, unknown, short, whole}
 use Rattle.streams.proofs.Grown.{no-byte, no-record, a-part, a-record}
-use Rattle.bench.specs.Table.{Record, as-in-shiftline, numbered, callOf, numberedSize, sizeOf, front, found}
+use Rattle.bench.specs.Table.{Record, as-in-shiftline, numbered, imaged, callOf, numberedSize, imagedSize, sizeOf, front, found}
 use Rattle.bench.specs.declared.find.Found.{Found}
-use Rattle.bench.specs.declared.find.Found.the-variants.{End, Unknown, Short, Load, Cycle, Tick}
+use Rattle.bench.specs.declared.find.Found.the-variants.{End, Unknown, Short, Load, Cycle, Tick, Image}
 use Rattle.bench.proofs.Grown.{Grown, grown}
 
 -- a load of so many numbers from a place of the record on
@@ -26,6 +26,12 @@ pub record Loads (bytes : List ℕ) (first count : ℕ) : Type 0 where
   pub size : sizeOf it ≡ first + 2 * count
   pub inside : first + 2 * count ≤ length bytes
 
+-- a block load from an image of so many bytes
+pub record Imaged (bytes : List ℕ) (block size : ℕ) : Type 0 where
+  pub is : front bytes ≡ whole (imaged block (take size (drop 4 bytes)))
+  pub size-is : length (take size (drop 4 bytes)) ≡ size
+  pub inside : imagedSize size ≤ length bytes
+
 abbrev pub Meaning : List ℕ → Found → Type 0
 Meaning bytes End = front bytes ≡ end
 Meaning bytes Unknown = front bytes ≡ unknown
@@ -33,6 +39,7 @@ Meaning bytes Short = front bytes ≡ short
 Meaning bytes (Load first count) = Loads bytes first count
 Meaning bytes (Cycle fields) = front bytes ≡ whole (as-in-shiftline (cycles fields))
 Meaning bytes (Tick fields) = front bytes ≡ whole (as-in-shiftline (ticks fields))
+Meaning bytes (Image block size) = Imaged bytes block size
 
 module _ (bytes given : List ℕ) where
   loaded :
@@ -72,4 +79,7 @@ meaning bytes said e = subst (Meaning bytes) (sym e) (go (front bytes) (grown by
     go (whole _) (a-record (as-in-shiftline (loads given)) (known, off) all) is = loaded bytes given known off all is
     go (whole _) (a-record (as-in-shiftline (cycles fields)) _ _) is = is
     go (whole _) (a-record (as-in-shiftline (ticks fields)) _ _) is = is
+    go (whole _) (a-record (as-in-shiftline (blockLoads image block)) none _) is = absurd none
     go (whole _) (a-record (numbered given) off all) is = counted bytes given off all is
+    go (whole _) (a-record (imaged block image) off all) is =
+        record { is = is ∙ ap (λ (l : List ℕ). whole (imaged block l)) off; size-is = ap length (sym off); inside = all }

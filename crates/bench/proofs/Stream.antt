@@ -5,11 +5,12 @@ use mathlib.Core.List.{List, _++_, flatten}
 use Prim.Native.Nat.{ℕ, _-_, _≤_}
 use native.Mathlib.Omega.{arith}
 use lib.ListN.{length}
+use Rattle.numbers.proofs.Bytes.{Bytes}
 use Rattle.drive.specs.declared.Drive.{Drive}
 use Rattle.streams.specs.Stream.{openRun, left, stream, inOne, Fit, Each}
 use Rattle.streams.proofs.Stream as streams
 use Rattle.bench.specs.Benchline.{benchline, inputSize, outputSize, mostHeld}
-use Rattle.bench.proofs.Laws.{lawful, roomy, Bytes, held}
+use Rattle.bench.proofs.Laws.{lawful, roomy, held}
 
 pub one-stream : (pieces : List (List ℕ)) (before : List ℕ) (d : Drive) → Fit benchline inputSize outputSize pieces before d
     → stream benchline inputSize outputSize pieces before d ≡ inOne benchline (before ++ flatten pieces) d

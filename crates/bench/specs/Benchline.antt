@@ -32,6 +32,6 @@ inputSize = 4096
 abbrev pub outputSize : ℕ
 outputSize = 1048576
 
--- a part of a record: one byte less than the longest, N with 255 numbers
+-- a part of a record: one byte less than the longest, B with the longest image
 abbrev pub mostHeld : ℕ
-mostHeld = 511
+mostHeld = 2051

@@ -13,10 +13,12 @@ use records::TICK_SIZE;
 ghost use mathlib.Core.Path.{_≡_};
 ghost use mathlib.Core.Bool.{false};
 ghost use Prim.Native.Nat.{_+_, _*_, _≤_};
-ghost use lib.ListN.{length, drop};
+ghost use lib.ListN.{length, take, drop};
 ghost use Rattle.drive.specs.Calls.{load};
+ghost use Rattle.drive.specs.Blocks.{blockLoad};
 ghost use Rattle.numbers.specs.Bytes.{numbers};
 ghost use Rattle.streams.specs.Run.{rest, lined, refused, runs, outputAfter};
+ghost use Rattle.bench.specs.Table.{imagedSize};
 ghost use Rattle.bench.specs.Line.{lineRoom, motorLine};
 ghost use Rattle.bench.specs.Benchline.{benchline, ranOf};
 
@@ -46,6 +48,22 @@ fn load_size(first: u8, count: u8) -> usize
     ensures { λ r. ⌜ r ≡ first + 2 * count ⌝ }
 {
     (first as usize) + 2 * (count as usize)
+}
+
+// The reply to a block load: of this block of the image, which stands behind the first four bytes of the record.
+fn imaged(drive: Drive, input: &[u8], at: usize, block: u8, size: u16) -> Reply
+    requires { ⌜ at + imagedSize size ≤ length (now input) ⌝ }
+    ensures { λ r. ⌜ r ≡ blockLoad drive (take size (drop 4 (drop at (now (input .entry))))) block ⌝ }
+{
+    let start = at + 4;
+    let end = start + (size as usize);
+    drive.load_block(&input[start..end], block)
+}
+
+fn imaged_size(size: u16) -> usize
+    ensures { λ r. ⌜ r ≡ imagedSize size ⌝ }
+{
+    4 + (size as usize)
 }
 
 // The line of a reply, for so many bytes.
@@ -109,5 +127,10 @@ pub(crate) fn step(drive: Drive, input: &[u8], at: usize, closed: bool, output: 
         ),
         Found::Cycle(fields) => answering(drive.cycle(fields), CYCLE_SIZE, output),
         Found::Tick(fields) => answering(drive.tick(fields), TICK_SIZE, output),
+        Found::Image(block, size) => answering(
+            imaged(drive, input, at, block, size),
+            imaged_size(size),
+            output,
+        ),
     }
 }

@@ -1,6 +1,7 @@
 -- What the proofs of the crates above cite.
 pub mod Settles
 pub mod Loads
+pub mod BlockLoads
 pub mod Gates
 pub mod Spin
 -- Of the promises themselves.

@@ -20,3 +20,6 @@ tick κs given r s p q = same (p ∙⁻¹ q) refl
 
 pub answered : OneReply promises.answer.answered.ended promises.answer.answered.Reads.Post
 answered κs given r s p q = same (p ∙⁻¹ q) refl
+
+pub load-block : OneReply promises.Drive.load_block.ended promises.Drive.load_block.Reads.Post
+load-block κs given r s p q = same (p ∙⁻¹ q) refl

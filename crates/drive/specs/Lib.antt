@@ -5,5 +5,6 @@ pub mod Answer
 pub mod Causes
 pub mod Refusals
 pub mod Calls
+pub mod Blocks
 pub mod Ticks
 pub mod AnyCall

@@ -84,7 +84,7 @@ fn replied(drive: Drive, number: u8, place: u8) -> Reply
     Reply { drive, answer }
 }
 
-fn pick_drive(test: bool, yes: Drive, no: Drive) -> Drive
+pub(crate) fn pick_drive(test: bool, yes: Drive, no: Drive) -> Drive
     ensures { λ r. ⌜ r ≡ cond test yes no ⌝ }
 {
     if test { yes } else { no }

@@ -26,12 +26,13 @@ ghost use mathlib.Core.Path.{_≡_};
 ghost use mathlib.Core.Bool.{true, _||_};
 ghost use lib.Dec.{eqb};
 ghost use lib.ListN.{length, take};
+ghost use Rattle.verdicts.specs.Table.{verdict};
 ghost use Rattle.settings.specs.Settings.{settingCount, allSettings, meant};
-ghost use Rattle.drive.specs.Refusals.{highestPattern};
-ghost use Rattle.drive.specs.Calls.{powerUp, chosen, load, summed, cycled, cycle};
+ghost use Rattle.drive.specs.Refusals.{highestPattern, loadRows};
+ghost use Rattle.drive.specs.Calls.{powerUp, chosen, settle, loaded, load, summed, cycled, cycle};
 
 // The 25 settings that 24 or 25 numbers mean.
-fn completed(numbers: &[u16]) -> [u16; ALL_SETTINGS]
+pub(crate) fn completed(numbers: &[u16]) -> [u16; ALL_SETTINGS]
     requires { ⌜ (eqb (length (now numbers)) settingCount || eqb (length (now numbers)) allSettings) ≡ true ⌝ }
     ensures { λ r. ⌜ r ≡ meant (now (numbers .entry)) ⌝ }
 {
@@ -103,10 +104,17 @@ impl Drive {
     pub fn load_settings(self, settings: [u16; ALL_SETTINGS]) -> Reply
         ensures { λ r. ⌜ r ≡ load self settings ⌝ }
     {
+        self.load_or(settings, self)
+    }
+
+    // The same, with the state that a refusal leaves.
+    pub(crate) fn load_or(self, settings: [u16; ALL_SETTINGS], left: Drive) -> Reply
+        ensures { λ r. ⌜ r ≡ settle (verdict (loadRows self settings)) (loaded (meant settings)) left ⌝ }
+    {
         let state = self.state;
         let verdict = loadable(state, settings::verdict(settings));
         let sensors = chosen(settings);
-        settle(verdict, fresh(State::Stop, kept(settings), sensors), self)
+        settle(verdict, fresh(State::Stop, kept(settings), sensors), left)
     }
 
     fn summed(self, cycle: Cycle) -> Offsets

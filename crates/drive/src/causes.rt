@@ -13,7 +13,7 @@ ghost use mathlib.Core.Path.{_≡_};
 ghost use Rattle.drive.specs.Flags.{alive};
 ghost use Rattle.drive.specs.Causes.{causes};
 
-// The flags: only these nine of the word's sixteen bits are ever set.
+// The flags: only these ten of the word's sixteen bits are ever set.
 const GATE_KILL: u16 = 1; // bit 0
 
 const CRITICAL_OVER_VOLTAGE: u16 = 2; // bit 1: VdcRaw above CriticalOvLevel
@@ -27,6 +27,8 @@ const FLUX: u16 = 16; // bit 4: eight bad flux slots in a row
 const OVER_TEMPERATURE: u16 = 64; // bit 6: temperature above Tshutdown
 
 const ROTOR_LOCK: u16 = 128; // bit 7
+
+pub(crate) const BLOCK_REFUSED: u16 = 4096; // bit 12: no cause sets it, but a block load in IDLE
 
 const HALL_TIMEOUT: u16 = 16384; // bit 14
 
@@ -55,8 +57,8 @@ pub(crate) fn causes(
         | flag(HALL_PATTERN, dead_streak == 2)
 }
 
-// Bits 0 and 1, whatever the mask.
-const ALWAYS_LIVE: u16 = 3;
+// Bits 0, 1 and 12, whatever the mask.
+const ALWAYS_LIVE: u16 = GATE_KILL | CRITICAL_OVER_VOLTAGE | BLOCK_REFUSED;
 
 pub(crate) fn alive(settings: [u16; SETTING_COUNT], flags: u16) -> u16
     ensures { λ r. ⌜ r ≡ alive settings flags ⌝ }

@@ -28,3 +28,6 @@ body κs given r s p q = (p .holds ∙⁻¹ q .holds, both (p .memory ∙⁻¹ q
   where
     both : {a b : ℕ × ℕ} → a .0 ≡ b .0 → a .1 ≡ b .1 → a ≡ b
     both {a} {b} e f = rw (e, f)
+
+pub numbers-of : OneReply promises.reader.numbers_of.ended promises.reader.numbers_of.Reads.Post
+numbers-of κs given r s p q = same (p ∙⁻¹ q) refl

@@ -1,7 +1,8 @@
-// The reader: whether an image is well-formed, and the part of it that holds a block. All of it but the last two functions is said of
+// The reader: whether an image is well-formed, and the part of it that holds a block. What is private is said of
 // any number of blocks, and of entries that stand behind any few bytes.
 use crate::BLOCKS;
 use crate::ENTRY_SIZE;
+use crate::MOST_NUMBERS;
 use numbers::byte_at;
 use numbers::number_at;
 use verdicts::ACCEPTED;
@@ -11,7 +12,7 @@ ghost use mathlib.Core.Path.{_≡_};
 ghost use mathlib.Core.Bool.{_&&_};
 ghost use Prim.Native.Nat.{_+_, _*_, _≤_};
 ghost use lib.ListN.{length};
-ghost use Rattle.numbers.specs.Bytes.{number};
+ghost use Rattle.numbers.specs.Bytes.{number, numbers};
 ghost use Rattle.verdicts.specs.Table.{verdict};
 ghost use Rattle.images.specs.Image.{fifteen};
 ghost use Rattle.images.specs.Table.{keeps, tabled};
@@ -117,4 +118,17 @@ pub fn body(image: &[u8], block: u8) -> &[u8]
     let start = found.start;
     let size = found.size;
     part(image, start, size)
+}
+
+// The numbers of a body, in an array for as many as a block can hold; past the end of the body they are 0.
+pub fn numbers_of(body: &[u8]) -> [u16; MOST_NUMBERS]
+    ensures { λ r. ⌜ r ≡ numbers 25 0 (now (body .entry)) ⌝ }
+{
+    let mut numbers = [0u16; MOST_NUMBERS];
+    let mut i: usize = 0;
+    while i < MOST_NUMBERS {
+        numbers[i] = number_at(body, 2 * i);
+        i += 1;
+    }
+    numbers
 }

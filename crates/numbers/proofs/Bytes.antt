@@ -93,6 +93,11 @@ bytes-take n bytes small i =
 pub bytes-drop : (n : ℕ) (bytes : List ℕ) → Bytes bytes → Bytes (drop n bytes)
 bytes-drop n bytes small i = rw getD-drop (small (n + i))
 
+pub bytes-append : (a b : List ℕ) → Bytes a → Bytes b → Bytes (a ++ b)
+bytes-append [] b of-a of-b i = of-b i
+bytes-append (x ∷ a) b of-a of-b zero = of-a 0
+bytes-append (x ∷ a) b of-a of-b (suc i) = bytes-append a b (λ i. of-a (suc i)) of-b i
+
 -- and reading, then writing
 pub words-numbers : (count : ℕ) (bytes : List ℕ) → length bytes ≡ 2 * count → Bytes bytes → words (numbers count 0 bytes) ≡ bytes
 unfolding numbers words

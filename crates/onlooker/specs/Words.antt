@@ -3,14 +3,14 @@
 -- is written anew here from documents 01 and 02, so that a mistake made in the drive's definitions and code alike is not made here.
 -- Causes 0, 1, 2, 3, 6 and 15 are told by what comes in. Causes 4, 7 and 14 "count only ticks taken in MOTORRUN": none stands in FAULT, so
 -- no exit has to ask for them, and while the drive runs the live word tells them.
-use Prim.Native.Nat.{ℕ, _-_, _/_, _%_, _^_}
+use Prim.Native.Nat.{ℕ, zero, suc, _+_, _*_, _-_, _/_, _%_, _^_}
 use mathlib.Core.Bool.{Bool, not, _&&_, _||_, cond}
 use mathlib.Core.List.{List, [], _∷_, _++_}
 use lib.Dec.{eqb, ltb, leb}
 use lib.ListN.{length, getD}
 use Rattle.numbers.specs.Count.{up}
 use Rattle.theorems_history.specs.Onlooker.{Asked, load, tick, neither, Words}
-use Rattle.drive.specs.AnyCall.{Call, loads, cycles, ticks}
+use Rattle.drive.specs.AnyCall.{Call, loads, cycles, ticks, blockLoads}
 use Rattle.drive.specs.declared.answer.Answer.{Answer}
 use Rattle.fields.specs.declared.Tick.{Tick}
 
@@ -18,11 +18,27 @@ use Rattle.fields.specs.declared.Tick.{Tick}
 abbrev pub asLoaded : List ℕ → List ℕ
 asLoaded numbers = cond (eqb (length numbers) 24) (numbers ++ (3 ∷ [])) numbers
 
--- "Three calls change the state: load (settings), cycle .. and tick"
+-- 02, M-102: "entries of kind .. one byte, then offset and length in bytes, two bytes each, high first": the two bytes at a place
+abbrev pub twoBytes : List ℕ → ℕ → ℕ
+twoBytes image at = 256 * getD image at 0 + getD image (at + 1) 0
+
+-- "numbers, high byte first": so many from a place on
+unfoldable pub numbersFrom : List ℕ → ℕ → ℕ → List ℕ
+numbersFrom image at zero = []
+numbersFrom image at (suc count) = twoBytes image at ∷ numbersFrom image (at + 2) count
+
+-- "24 or 25 numbers": those that an accepted block load brought, by the block's own entry of five bytes
+unfoldable pub stored : List ℕ → ℕ → List ℕ
+stored image block =
+    let start : ℕ = twoBytes image (5 * block + 1) in
+    cond (eqb (twoBytes image (5 * block + 3)) (2 * 24)) (numbersFrom image start 24) (numbersFrom image start 25)
+
+-- "Three calls change the state: load (settings), cycle .. and tick"; 02, M-102, of the block load: "demand 3 counts it as a load"
 abbrev pub asked : Call → Asked Tick
 asked (loads numbers) = load (asLoaded numbers)
 asked (cycles fields) = neither
 asked (ticks fields) = tick fields
+asked (blockLoads image block) = load (asLoaded (stored image block))
 
 -- the loaded numbers by the paper's places: 1 ControlMode, 2 FaultEnable, 3 VdcOvLevel, 4 VdcLvLevel, 5 CriticalOvLevel, 6 Tshutdown,
 -- 21 CmdStart, 22 CmdStop, 24 RetryLimit, 25 the number of sensors
@@ -45,6 +61,7 @@ abbrev pub deadAfter : List ℕ → Call → ℕ → ℕ
 deadAfter s (loads numbers) dead = 0
 deadAfter s (cycles fields) dead = cond (isDead s (fields .pattern)) (up 2 dead) 0
 deadAfter s (ticks fields) dead = dead
+deadAfter s (blockLoads image block) dead = 0
 
 -- "Mode 0: low is command 0, high is command 1. Mode 1: low is control at most CmdStop, high is control at least CmdStart."
 abbrev pub lowOf : List ℕ → Tick → Bool

@@ -10,7 +10,7 @@ use lib.Dec.{T, eqb, ltb, ltb→lt}
 use lib.ListN.{length, length-append, List·getD-append}
 use borrow.Author.Tests.{ltb-true, ltb-false, le-ltb, ne-eqb, eqb-true, eqb-false}
 use Rattle.settings.specs.Settings.{settingCount, allSettings}
-use Rattle.drive.specs.AnyCall.{Call, loads, cycles, ticks}
+use Rattle.drive.specs.AnyCall.{Call, loads, cycles, ticks, blockLoads}
 use Rattle.numbers.specs.Bytes.{byte, number, numbers}
 use Rattle.records.specs.Decoded.{loadSize, counts, settingsOf, cycleSize, cycleOf, tickSize, tickOf}
 use Rattle.streams.specs.Run.{Front, short, whole}
@@ -25,6 +25,7 @@ abbrev pub ReadOff : List ℕ → Call → Type 0
 ReadOff bytes (loads numbers) = (counts (length numbers) ≡ true) × (numbers ≡ settingsOf (length numbers) bytes)
 ReadOff bytes (cycles fields) = fields ≡ cycleOf bytes
 ReadOff bytes (ticks fields) = fields ≡ tickOf bytes
+ReadOff bytes (blockLoads image block) = ⊥
 
 -- what stands at the front of the bytes `a`, and what stands there when more have come
 abbrev pub Grown : List ℕ → Front Call → Front Call → Type 0

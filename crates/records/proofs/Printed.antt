@@ -11,11 +11,12 @@ use Rattle.faults.specs.Word.{bit, any}
 use Rattle.numbers.proofs.Tests.{by-test}
 use Rattle.states.proofs.Every.{every}
 use Rattle.states.specs.States.{numberOf}
-use Rattle.drive.specs.AnyCall.{Call, loads, cycles, ticks, reply as replyTo}
+use Rattle.drive.specs.AnyCall.{Call, loads, cycles, ticks, blockLoads, reply as replyTo}
 use Rattle.drive.specs.Answer.{gateOf, gate, liveWord, answer}
 use Rattle.verdicts.specs.Table.{Row, told, verdict}
 use Rattle.settings.specs.Rules.{settingRows}
 use Rattle.drive.specs.Refusals.{loadRows, cycleRows, tickRows}
+use Rattle.drive.specs.Blocks.{blockRows, leftByBlock, blockLoad}
 use Rattle.drive.specs.Calls.{settle, load, cycle, cycled}
 use Rattle.drive.specs.Ticks.{tick, ticked}
 use Rattle.drive.proofs.Settles.{settles}
@@ -68,10 +69,13 @@ settle-printed v next d lent number room =
 
 pub reply-printed : (d : Drive) (r : Call) (lent : ℕ) {said : Reply} → said ≡ replyTo d r → lineLength ≤ lent
     → accepts (said .answer) lent ≡ true
-unfolding load cycle tick small settingRows
+unfolding load cycle tick blockLoad small settingRows
 reply-printed d (loads numbers) lent same room =
     rw same (settle-printed (verdict (loadRows d numbers)) _ d lent (verdict-small (loadRows d numbers) tt) room)
 reply-printed d (cycles fields) lent same room =
     rw same (settle-printed (verdict (cycleRows d fields)) (cycled d fields) d lent (verdict-small (cycleRows d fields) tt) room)
 reply-printed d (ticks fields) lent same room =
     rw same (settle-printed (verdict (tickRows d fields)) (ticked d fields) d lent (verdict-small (tickRows d fields) tt) room)
+reply-printed d (blockLoads image block) lent same room =
+    rw same
+    (settle-printed (verdict (blockRows d image block)) _ (leftByBlock d image block) lent (verdict-small (blockRows d image block) tt) room)

@@ -5,7 +5,7 @@ use mathlib.Core.Bool.{true}
 use Prim.Native.Nat.{ℕ, _≤_}
 use native.Mathlib.Omega.{arith}
 use lib.ListN.{length}
-use Rattle.drive.specs.AnyCall.{Call, loads, cycles, ticks}
+use Rattle.drive.specs.AnyCall.{Call, loads, cycles, ticks, blockLoads}
 use Rattle.records.specs.Decoded.{loadSize, counts, settingsOf}
 use Rattle.streams.specs.Run.{Front, end, unknown, short, whole}
 use Rattle.streams.proofs.Grown.{no-byte, no-record, a-part, a-record}
@@ -38,3 +38,4 @@ meaning bytes said e = subst (Meaning bytes) (sym e) (go (front bytes) (grown by
         (is ∙ ap (λ (l : List ℕ). whole (loads l)) off, omega (arith, size, all), known)
     go (whole _) (a-record (cycles fields) _ _) is = is
     go (whole _) (a-record (ticks fields) _ _) is = is
+    go (whole _) (a-record (blockLoads image block) none _) is = absurd none

@@ -7,15 +7,15 @@ use native.Mathlib.Omega.{arith}
 use lib.Dec.{T, eqb, ltb, ltb→lt, not-T}
 use lib.ListN.{length, getD}
 use mir.Facts.{and-yes, ltb-no}
-use Rattle.theorems_history.specs.Onlooker.{Memory, Asked, neither, heard, remember, noted, note}
+use Rattle.theorems_history.specs.Onlooker.{Memory, Asked, load, neither, heard, remember, noted, note}
 use Rattle.theorems_history.specs.History.{Seen}
 use Rattle.theorems_history.specs.Laws.{Step, Lawful}
-use Rattle.numbers.proofs.Tests.{decide, or-left, fails-left, fails-right, contrary, joins}
+use Rattle.numbers.proofs.Tests.{by-test, decide, or-left, fails-left, fails-right, contrary, joins}
 use Rattle.theorems_history.proofs.Steps
 use Rattle.theorems_history.proofs.Demand3.{demand3}
 use Rattle.states.specs.States.{numberOf, is, turning}
 use Rattle.settings.specs.Settings.{settingCount, allSettings, meant, FaultEnable, RetryLimit}
-use Rattle.faults.specs.Word.{flag, any}
+use Rattle.faults.specs.Word.{flag, _or_, any}
 use Rattle.faults.proofs.Bits.{old-stays}
 use Rattle.drive.specs.Flags.{alwaysLive}
 use Rattle.drive.specs.Command.{low}
@@ -24,9 +24,13 @@ use Rattle.verdicts.specs.Table.{verdict}
 use Rattle.drive.specs.Refusals.{highestPattern, loadRows, cycleRows, tickRows}
 use Rattle.drive.specs.Calls.{becomes, loaded, cycled, sample}
 use Rattle.drive.specs.Calls
+use Rattle.images.specs.Image.{fifteen}
+use Rattle.images.specs.Reads.{readRows, isRead}
+use Rattle.drive.specs.Blocks.{blockNumbers, blockRows, leftByBlock}
+use Rattle.drive.specs.Blocks
 use Rattle.drive.specs.Ticks.{ticked}
 use Rattle.drive.specs.Ticks as TickCalls
-use Rattle.drive.specs.AnyCall.{Call, loads, cycles, ticks, reply}
+use Rattle.drive.specs.AnyCall.{Call, loads, cycles, ticks, blockLoads, reply}
 use Rattle.drive.specs.declared.Drive.{Drive}
 use Rattle.drive.specs.declared.answer.Answer.{Answer}
 use Rattle.drive.specs.declared.answer.Reply.{Reply}
@@ -36,17 +40,18 @@ use Rattle.hall.specs.declared.Hall.{Hall}
 use Rattle.drive.specs.declared.offsets.Offsets.{Offsets}
 use Rattle.theorems_reached.specs.Machine.{machine}
 use Rattle.theorems_reached.specs.Reached.{Reached}
-use Rattle.verdicts.proofs.Passed.{passed}
+use Rattle.verdicts.proofs.Passed.{passed, both-passed}
 use Rattle.drive.proofs.Settles.{settles}
 use Rattle.theorems_reached.proofs.Loads.{accepted-state, accepted-count}
-use Rattle.theorems_reached.proofs.Keeps.{reached-power-up, cycled-reached, call-keeps}
-use Rattle.theorems_reached.proofs.Corollaries.{disarmed-in-fault, low-excludes-high}
-use Rattle.onlooker.specs.Words.{words, deadCauseOf}
+use Rattle.theorems_reached.proofs.Keeps.{reached-power-up, marked-reached, cycled-reached, call-keeps}
+use Rattle.theorems_reached.proofs.Corollaries.{in-idle, disarmed-in-fault, low-excludes-high}
+use Rattle.onlooker.specs.Words.{words, asked, deadAfter, deadCauseOf}
 use Rattle.theorems_demands.specs.Supervised.{DriveDemand3}
 use Rattle.theorems_demands.proofs.Shown.{inside, fault-shown, gates-ask, dark, shows-turning}
 use Rattle.theorems_demands.proofs.Causes.{dead-shows}
-use Rattle.theorems_demands.proofs.Remembers.{Agree, Remembers, remembers-power-up, afterRefused, refused-remembers}
+use Rattle.theorems_demands.proofs.Remembers.{Agree, Remembers, remembers-power-up, flagged, afterRefused, refused-remembers}
 use Rattle.theorems_demands.proofs.Remembers.{load-remembers, cycle-remembers, tick-remembers}
+use Rattle.theorems_demands.proofs.Stored.{stored-is}
 use Rattle.theorems_demands.proofs.Ticks
 use Rattle.theorems_demands.proofs.Tests.{never-both, idle-or-stop, not-both, begins, begins-nothing}
 
@@ -83,7 +88,7 @@ module _ (d : Drive) (r : Reached d) (memory : Memory) (knows : Remembers d memo
   within : d .retries ≤ RetryLimit (memory .numbers)
   within =
       decide (is 0 (d .state))
-      (λ idle. rw (r .idle idle) zero-le)
+      (in-idle d r (λ (e : Drive). e .retries ≤ RetryLimit (memory .numbers)) zero-le zero-le)
       (λ outside. rw (knows .loaded outside .setting 23 (omega arith)) (r .retries))
 
   -- a call that is no tick and after which the drive stands where it stood, armed as it was: one that is refused, and a cycle. It may end
@@ -102,7 +107,7 @@ module _ (d : Drive) (r : Reached d) (memory : Memory) (knows : Remembers d memo
     dead-faults now r-now knows-now cause =
         decide (is 0 (d .state))
         (λ idle.
-        let none : hall .«dead_streak» ≡ 0 = ap (λ (e : Drive). e .hall .«dead_streak») (r-now .idle idle) in
+        let none : hall .«dead_streak» ≡ 0 = in-idle stood r-now (λ (e : Drive). e .hall .«dead_streak» ≡ 0) refl refl idle in
         absurd (rw (knows-now .dead, none) at cause))
         (λ outside. dead-shows stood r-now (rw (knows-now .loaded outside .setting 1 (omega arith), knows-now .dead) at cause))
 
@@ -136,11 +141,16 @@ module _ (d : Drive) (r : Reached d) (memory : Memory) (knows : Remembers d memo
         rw (knows .shown, knows-now .shown) (search joins depth 9))
         refl
 
-  module _ (call : Call) (number at : ℕ) (not-0 : eqb number 0 ≡ false) where
-    abbrev after : Memory
-    after = afterRefused memory call number at d
+  -- a refused call leaves the drive, but for flags that it may set
+  module _ (flags : ℕ) (r-now : Reached (flagged d flags)) (more : T (any (liveWord d)) → T (any (liveWord (flagged d flags))))
+      (call : Call) (number at : ℕ) (not-0 : eqb number 0 ≡ false) where
+    abbrev left : Drive
+    left = flagged d flags
 
-    heard-nothing : heard words (record { call = call; answer = answer number at d }) ≡ neither
+    abbrev after : Memory
+    after = afterRefused memory call number at left
+
+    heard-nothing : heard words (record { call = call; answer = answer number at left }) ≡ neither
     unfolding answer
     heard-nothing = rw not-0
 
@@ -148,33 +158,39 @@ module _ (d : Drive) (r : Reached d) (memory : Memory) (knows : Remembers d memo
     unfolding answer
     loaded-nothing = rw not-0
 
-    refused : Done d memory call (replied number at d)
-    refused =
-        let now = refused-remembers d memory knows call number at not-0 in
+    refused-with : Done d memory call (replied number at left)
+    refused-with =
+        let now = refused-remembers d memory knows flags call number at not-0 in
         record {
           remembers = now;
           obeys =
-              subst (λ (about : Asked Tick). Step (inside d) (noted words memory about after (answer number at d)) (inside d))
+              subst (λ (about : Asked Tick). Step (inside d) (noted words memory about after (answer number at left)) (inside left))
               (sym heard-nothing)
-              (stands (d .hall) (d .flags) (d .cycles) (d .offsets) number at after r (λ t. t) now loaded-nothing);
+              (stands (d .hall) flags (d .cycles) (d .offsets) number at after r-now more now loaded-nothing);
         }
 
+  refused : (call : Call) (number at : ℕ) → eqb number 0 ≡ false → Done d memory call (replied number at d)
+  refused = refused-with (d .flags) r (λ t. t)
+
   load-done :
-      (numbers : List ℕ)
+      (call : Call) (numbers : List ℕ)
+      → asked call ≡ load (meant numbers)
+      → deadAfter (memory .numbers) call (memory .dead) ≡ 0
       → T (is 0 (d .state) || is 1 (d .state))
       → (eqb (length numbers) settingCount || eqb (length numbers) allSettings) ≡ true
-      → Done d memory (loads numbers) (replied 0 0 (loaded (meant numbers)))
+      → Done d memory call (replied 0 0 (loaded (meant numbers)))
   unfolding answer
-  load-done numbers admitted either =
+  load-done call numbers asks none admitted either =
       let next : Drive = loaded (meant numbers) in
       record {
-        remembers = load-remembers d memory knows numbers either;
+        remembers = load-remembers d memory knows call numbers asks none either;
         obeys =
-            Steps.loads (inside d) _ (inside next) (gates-ask 0 0 next) zero-le
+            rw (asks, none)
+            (Steps.loads (inside d) _ (inside next) (gates-ask 0 0 next) zero-le
             (fault-shown 0 0 next) (λ cause. cause) (λ was keeps. absurd keeps) (dark 0 0 next)
             tt tt
             (rw (knows .shown) (fails-left (is 5 (d .state)) true (idle-or-stop (numberOf (d .state)) admitted)))
-            tt tt refl;
+            tt tt refl);
       }
 
   cycle-done :
@@ -210,11 +226,36 @@ module _ (d : Drive) (r : Reached d) (memory : Memory) (knows : Remembers d memo
               (λ is-high. not-T (low (d .settings) t) (λ is-low. low-excludes-high d r t outside is-low is-high)));
         }
 
+  -- a block load: accepted, he reads the numbers that were loaded off the image himself
+  block-load-done :
+      (image : List ℕ) (block : ℕ)
+      → verdict (blockRows d image block) .number ≡ 0
+      → Done d memory (blockLoads image block) (replied 0 0 (loaded (meant (blockNumbers image block))))
+  unfolding meant
+  block-load-done image block none =
+      let both = both-passed (readRows fifteen image block) (loadRows d (blockNumbers image block)) tt none in
+      load-done (blockLoads image block) (blockNumbers image block) (rw (stored-is image block (both .0))) refl
+      (accepted-state d (blockNumbers image block) (both .1)) (accepted-count d (blockNumbers image block) (both .1))
+
+  -- refused, in IDLE it may leave flag 12
+  block-load-refused :
+      (image : List ℕ) (block number at : ℕ)
+      → eqb number 0 ≡ false
+      → Done d memory (blockLoads image block) (replied number at (leftByBlock d image block))
+  block-load-refused image block number at not-0 =
+      by-test (λ (left : Drive). Done d memory (blockLoads image block) (replied number at left))
+      (isRead fifteen image block && is 0 (d .state))
+      (λ both.
+      refused-with (d .flags or flag 12 true) (marked-reached d r (and-yes (isRead fifteen image block) (is 0 (d .state)) both .1))
+      (old-stays alwaysLive (FaultEnable (d .settings)) (d .flags) (flag 12 true))
+      (blockLoads image block) number at not-0)
+      (λ none. refused (blockLoads image block) number at not-0)
+
   done : (call : Call) → Done d memory call (reply d call)
-  unfolding Calls.load Calls.cycle TickCalls.tick
+  unfolding Calls.load Calls.cycle TickCalls.tick Blocks.blockLoad meant
   done (loads numbers) =
       settles (Done d memory (loads numbers)) (verdict (loadRows d numbers)) (loaded (meant numbers)) d
-      (λ none. load-done numbers (accepted-state d numbers none) (accepted-count d numbers none))
+      (λ none. load-done (loads numbers) numbers refl refl (accepted-state d numbers none) (accepted-count d numbers none))
       (refused (loads numbers) _ _)
   done (cycles c) =
       settles (Done d memory (cycles c)) (verdict (cycleRows d c)) (cycled d c) d
@@ -227,6 +268,10 @@ module _ (d : Drive) (r : Reached d) (memory : Memory) (knows : Remembers d memo
       settles (Done d memory (ticks t)) (verdict (tickRows d t)) (ticked d t) d
       (λ none. tick-done t (passed (tickRows d t) tt none .0))
       (refused (ticks t) _ _)
+  done (blockLoads image block) =
+      settles (Done d memory (blockLoads image block)) (verdict (blockRows d image block)) _ (leftByBlock d image block)
+      (λ none. block-load-done image block none)
+      (block-load-refused image block _ _)
 
 -- ---- every call
 

@@ -1,23 +1,36 @@
 -- Demand 1: "Bad input is refused with the number and place in document 01; the drive state and any lent bytes then stand as before."
+-- Amended by 02, M-102: "A body that it finds and load's own rules refuse in IDLE also sets flag 12".
 -- A caller sees the refusal by the number that it is told, so each theorem starts from that.
-use mathlib.Core.Path.{_≡_, refl}
-use mathlib.Core.Bool.{Bool, true, false}
-use mathlib.Core.List.{List}
-use mathlib.Core.Logic.{_⊎_, inl, inr}
+use mathlib.Core.Path.{_≡_, refl, sym, ap, _∙_}
+use mathlib.Core.Bool.{Bool, true, false, _&&_, not, cond}
+use mathlib.Core.List.{List, [], _∷_}
+use mathlib.Core.Logic.{_⊎_, inl, inr, _↔_}
 use Prim.Native.Nat.{ℕ, zero, suc}
-use lib.Dec.{ltb}
+use lib.Dec.{T, eqb, eqb→eq, leb, ltb}
 use lib.ListN.{length, drop}
 use lib.Seq.{drop-at}
+use native.Mathlib.Omega.{arith}
 use borrow.Author.Tests.{ne-eqb}
-use Rattle.numbers.proofs.Tests.{by-test}
-use Rattle.drive.specs.Answer.{reply as shown}
-use Rattle.verdicts.specs.Table.{Row, verdict}
+use lib.Ieee.Bits.{is-true}
+use mir.Facts.{T-not, and-yes, yes-and}
+use Rattle.numbers.proofs.Tests.{by-test, decide}
+use Rattle.drive.specs.Answer.{answer, reply as shown}
+use Rattle.verdicts.specs.Table.{Row, row, verdict}
+use Rattle.verdicts.proofs.Passed.{behind-passed, before-later, one-number}
+use Rattle.settings.specs.Rules.{settingRows}
 use Rattle.drive.specs.Refusals.{loadRows, cycleRows, tickRows}
+use Rattle.states.specs.States.{is}
+use Rattle.images.specs.Image.{fifteen}
+use Rattle.images.specs.Table.{wellFormed, isFilled}
+use Rattle.images.specs.Reads.{readRows, foundOf, isRead}
 use Rattle.drive.specs.Calls
+use Rattle.drive.specs.Blocks.{blockNumbers, blockRows, marked, leftByBlock}
+use Rattle.drive.specs.Blocks
 use Rattle.drive.specs.Ticks
-use Rattle.drive.specs.AnyCall.{Call, loads, cycles, ticks, reply}
+use Rattle.drive.specs.AnyCall.{Call, loads, cycles, ticks, blockLoads, reply}
 use Rattle.drive.specs.declared.Drive.{Drive}
 use Rattle.drive.specs.declared.answer.Answer.{Answer}
+use Rattle.drive.specs.declared.answer.Reply.{Reply}
 use Rattle.report.specs.Refusals.{lineLength, lineVerdict, accepts}
 use Rattle.report.specs.Line.{line, lentAfter}
 use Rattle.report.proofs.Fields.{length-line}
@@ -32,16 +45,85 @@ abbrev pub rows : Drive → Call → List Row
 rows d (loads numbers) = loadRows d numbers
 rows d (cycles fields) = cycleRows d fields
 rows d (ticks fields) = tickRows d fields
+rows d (blockLoads image block) = blockRows d image block
 
--- a call that answers another number than 0 leaves the state, and shows it with the number and place of the first row that holds
+-- 02, M-102, which "amends demand 1 and the rule that a refusal changes nothing": the one place where it does not hold. A block load finds
+-- the body, in IDLE.
+abbrev pub amended : Drive → Call → Bool
+amended d (loads numbers) = false
+amended d (cycles fields) = false
+amended d (ticks fields) = false
+amended d (blockLoads image block) = isRead fifteen image block && is 0 (d .state)
+
+-- a call that answers another number than 0 leaves the state, but there with flag 12, and shows what it leaves with the number and place of
+-- the first row that holds
 pub refused-unchanged :
     (d : Drive) (call : Call)
     → (reply d call .answer .number ≡ 0 → ⊥)
-    → reply d call ≡ shown (verdict (rows d call) .number) (verdict (rows d call) .place) d
-unfolding Calls.load Calls.cycle Ticks.tick
+    → reply d call ≡ shown (verdict (rows d call) .number) (verdict (rows d call) .place) (cond (amended d call) (marked d) d)
+unfolding Calls.load Calls.cycle Ticks.tick Blocks.blockLoad
 refused-unchanged d (loads numbers) given = refusal (verdict (loadRows d numbers)) _ d given
 refused-unchanged d (cycles fields) given = refusal (verdict (cycleRows d fields)) _ d given
 refused-unchanged d (ticks fields) given = refusal (verdict (tickRows d fields)) _ d given
+refused-unchanged d (blockLoads image block) given =
+    refusal (verdict (blockRows d image block)) _ (leftByBlock d image block) given
+
+-- and a caller sees by the number where that is: it is a block load in IDLE that is answered with 2
+not-2 : (a b c : Bool) → verdict (row 7 0 a ∷ row 8 0 b ∷ row 9 0 c ∷ []) .number ≡ 2 → ⊥
+not-2 true b c is = omega arith
+not-2 false true c is = omega arith
+not-2 false false true is = omega arith
+not-2 false false false is = omega arith
+
+abbrev behind-first : List Row → List Row
+behind-first [] = []
+behind-first (r ∷ rest) = rest
+
+module _ (d : Drive) (image : List ℕ) (block : ℕ) where
+  abbrev own : List Row
+  own = loadRows d (blockNumbers image block)
+
+  -- load's own rules in IDLE
+  own-2 : T (is 0 (d .state)) → (verdict own .number ≡ 0 → ⊥) → verdict own .number ≡ 2
+  unfolding settingRows
+  own-2 idle given =
+      let here : is 0 (d .state) ≡ true = is-true (is 0 (d .state)) idle in
+      rw here (one-number 2 (behind-first own) tt (λ zero. given (rw here zero)))
+
+  pub amended-is-2 :
+      T (is 0 (d .state))
+      → (verdict (blockRows d image block) .number ≡ 0 → ⊥)
+      → T (amended d (blockLoads image block)) ↔ (verdict (blockRows d image block) .number ≡ 2)
+  unfolding foundOf
+  amended-is-2 idle given = (
+    λ both.
+        let read = eqb→eq (verdict (readRows fifteen image block) .number) 0 (and-yes (isRead fifteen image block) (is 0 (d .state)) both .0) in
+        let same = behind-passed (readRows fifteen image block) own tt read in
+        rw same (own-2 idle (λ zero. given (rw same zero))),
+    λ two.
+        decide (isRead fifteen image block) (λ read. yes-and (isRead fifteen image block) (is 0 (d .state)) read idle)
+        (λ unread.
+        let refused : verdict (readRows fifteen image block) .number ≡ 0 → ⊥ =
+        λ zero. T-not (isRead fifteen image block) (rw zero tt) unread in
+        absurd
+        (not-2 (not (wellFormed fifteen image)) (leb 15 block) (not (isFilled 0 image block))
+        (rw (before-later (readRows fifteen image block) own refused) at two))),
+  )
+
+  -- its number is that of the first row that holds
+  number-told : (reply d (blockLoads image block) .answer .number ≡ 0 → ⊥)
+      → reply d (blockLoads image block) .answer .number ≡ verdict (blockRows d image block) .number
+  unfolding answer
+  number-told given = ap (λ (r : Reply). r .answer .number) (refused-unchanged d (blockLoads image block) given)
+
+  pub amended-answers-2 :
+      T (is 0 (d .state))
+      → (reply d (blockLoads image block) .answer .number ≡ 0 → ⊥)
+      → T (amended d (blockLoads image block)) ↔ (reply d (blockLoads image block) .answer .number ≡ 2)
+  amended-answers-2 idle given =
+      let same = number-told given in
+      let told = amended-is-2 idle (λ zero. given (same ∙ zero)) in
+      (λ both. same ∙ told .0 both, λ two. told .1 (sym same ∙ two))
 
 -- a line call that tells another number than 0 leaves each lent byte
 pub refused-line : (a : Answer) (lent : List ℕ) → (lineVerdict a (length lent) .number ≡ 0 → ⊥) → lentAfter a lent ≡ lent

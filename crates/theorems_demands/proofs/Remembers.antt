@@ -7,7 +7,7 @@ use native.Mathlib.Omega.{arith}
 use lib.Dec.{T, eqb}
 use lib.Ieee.Bits.{is-true}
 use lib.ListN.{length, getD}
-use Rattle.theorems_history.specs.Onlooker.{Memory, nothingYet, remember}
+use Rattle.theorems_history.specs.Onlooker.{Memory, nothingYet, load, remember}
 use Rattle.states.specs.States.{numberOf, is}
 use Rattle.drive.specs.Answer.{answer}
 use Rattle.settings.specs.Settings.{settingCount, allSettings, meant}
@@ -17,9 +17,9 @@ use Rattle.hall.specs.declared.layout.Sensors.{Sensors}
 use Rattle.hall.specs.declared.layout.Sensors.the-variants.{Three, Two}
 use Rattle.drive.specs.Refusals.{highestPattern}
 use Rattle.drive.specs.Calls as Calls
-use Rattle.drive.specs.Calls.{powerUp, loaded, cycled}
+use Rattle.drive.specs.Calls.{powerUp, becomes, loaded, cycled}
 use Rattle.drive.specs.Ticks.{ticked, arrive, moved, watch, raised, armedBy, nth, chosen}
-use Rattle.drive.specs.AnyCall.{Call, loads, cycles, ticks}
+use Rattle.drive.specs.AnyCall.{Call, cycles, ticks}
 use Rattle.drive.specs.declared.Drive.{Drive}
 use Rattle.fields.specs.declared.Cycle.{Cycle}
 use Rattle.fields.specs.declared.Tick.{Tick}
@@ -29,7 +29,7 @@ use Rattle.states.specs.declared.State.{State}
 use Rattle.drive.specs.declared.offsets.Offsets.{Offsets}
 use Rattle.motor.specs.declared.Run.{Run}
 use Rattle.theorems_reached.proofs.Hall.{deadPattern, dead-by-pattern}
-use Rattle.onlooker.specs.Words.{words, isDead}
+use Rattle.onlooker.specs.Words.{words, asked, deadAfter, isDead}
 
 -- the numbers of a load are the drive's settings, and choose its sensors
 pub record Agree (numbers settings : List ℕ) (sensors : Sensors) : Type 0 where
@@ -55,6 +55,10 @@ dead-alike numbers p = go (eqb (getD numbers 24 0) 2)
     go true = refl
     go false = refl
 
+-- the drive with other flags
+abbrev pub flagged : Drive → ℕ → Drive
+flagged d flags = becomes d (d .state) (d .hall) flags (d .cycles) (d .ticks) (d .offsets) (d .run) (d .armed) (d .retries)
+
 -- his memory after a call that was refused with this number, and after one that was accepted
 abbrev pub afterRefused : Memory → Call → ℕ → ℕ → Drive → Memory
 afterRefused memory call number at d = remember words memory (record { call = call; answer = answer number at d })
@@ -67,9 +71,13 @@ module _ (d : Drive) (memory : Memory) (knows : Remembers d memory) where
   in-fault : T (is 5 (d .state)) → eqb (memory .shown) 5 ≡ true
   in-fault fault = rw (knows .shown) (is-true (is 5 (d .state)) fault)
 
-  pub refused-remembers : (call : Call) (number at : ℕ) → eqb number 0 ≡ false → Remembers d (afterRefused memory call number at d)
+  -- a refused call, whatever flags it leaves
+  pub refused-remembers :
+      (flags : ℕ) (call : Call) (number at : ℕ)
+      → eqb number 0 ≡ false
+      → (let left : Drive = flagged d flags in Remembers left (afterRefused memory call number at left))
   unfolding answer
-  refused-remembers call number at refused =
+  refused-remembers flags call number at refused =
       record {
         loaded = λ outside. rw refused (knows .loaded outside);
         shown = refl;
@@ -77,22 +85,26 @@ module _ (d : Drive) (memory : Memory) (knows : Remembers d memory) where
         dead = rw refused (knows .dead);
       }
 
+  -- an accepted load of either kind: it asks for these numbers
   pub load-remembers :
-      (numbers : List ℕ)
+      (call : Call) (numbers : List ℕ)
+      → asked call ≡ load (meant numbers)
+      → deadAfter (memory .numbers) call (memory .dead) ≡ 0
       → (eqb (length numbers) settingCount || eqb (length numbers) allSettings) ≡ true
-      → Remembers (loaded (meant numbers)) (afterAccepted memory (loads numbers) (loaded (meant numbers)))
-  unfolding answer meant
-  load-remembers numbers either =
+      → Remembers (loaded (meant numbers)) (afterAccepted memory call (loaded (meant numbers)))
+  unfolding answer
+  load-remembers call numbers asks none either =
       record {
         loaded = λ t.
-            record {
+            rw asks
+            (record {
               setting = λ i below.
                   sym (first-at settingCount (meant numbers) i below (omega (arith, below, length-meant numbers either)));
               chooses = refl;
-            };
+            });
         shown = refl;
         waited = λ t. absurd t;
-        dead = refl;
+        dead = none;
       }
 
   -- which samples are dead is told by the loaded numbers

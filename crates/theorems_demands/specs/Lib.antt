@@ -1,4 +1,5 @@
 pub mod Supervised
+pub mod FlagTwelve
 pub mod NamedCalls
 pub mod Bench
 pub mod NamedRuns

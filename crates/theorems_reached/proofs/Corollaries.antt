@@ -1,6 +1,7 @@
 -- What follows of a reached state, as other proofs want it.
-use mathlib.Core.Path.{_≡_, refl, ap}
+use mathlib.Core.Path.{_≡_, refl, ap, subst⁻¹}
 use mathlib.Core.Bool.{Bool, true, false, _||_, not, cond}
+use mathlib.Core.Logic.{_⊎_, inl, inr, ⊎-elim}
 use Prim.Native.Nat.{ℕ, zero, suc, _+_, _*_, _/_, _≤_, _<_, min}
 use native.Mathlib.Omega.{arith}
 use lib.Dec.{T, eqb, leb}
@@ -14,6 +15,8 @@ use Rattle.settings.specs.Settings.{OffsetPsc, CmdStart, CmdStop, mode1, sample
 use Rattle.faults.specs.Word.{bit, any}
 use Rattle.drive.specs.Command.{low, high}
 use Rattle.drive.specs.Offsets.{added}
+use Rattle.drive.specs.Calls.{powerUp}
+use Rattle.drive.specs.Blocks.{marked}
 use Rattle.drive.specs.Answer.{gate, liveWord, reported}
 use Rattle.drive.specs.declared.Drive.{Drive}
 use Rattle.fields.specs.declared.Tick.{Tick}
@@ -62,6 +65,10 @@ one-level true command control below low high = omega (arith, leb-yes)
 one-level false command control below low high = omega (arith, eqb-yes)
 
 module _ (d : Drive) (r : Reached d) where
+  -- what holds of power-up, and of power-up with flag 12, holds in IDLE
+  pub in-idle : (P : Drive → Type 0) → P powerUp → P (marked powerUp) → T (is 0 (d .state)) → P d
+  in-idle P dark lit idle = ⊎-elim (λ is. subst⁻¹ P is dark) (λ is. subst⁻¹ P is lit) (r .idle idle)
+
   -- ---- what runs
 
   -- Outside IDLE, in MOTORRUN or not, what runs is within its bounds.
@@ -105,7 +112,7 @@ module _ (d : Drive) (r : Reached d) where
   pub retries-within : d .retries ≤ 100
   retries-within =
       decide (is 0 (d .state))
-      (λ t. rw (r .idle t) (omega arith))
+      (λ t. ⊎-elim (λ is. rw is (omega arith)) (λ is. rw is (omega arith)) (r .idle t))
       (λ t. let few = r .retries in omega (arith, at-most (r .settings t) 23 (omega arith)))
 
   -- ---- arming
@@ -122,7 +129,7 @@ module _ (d : Drive) (r : Reached d) where
   disarmed-in-turning t = disarmed (turns (d .state) t .not-waiting)
 
   pub disarmed-in-idle : T (is 0 (d .state)) → d .armed ≡ false
-  disarmed-in-idle t = ap (λ (e : Drive). e .armed) (r .idle t)
+  disarmed-in-idle t = in-idle (λ (e : Drive). e .armed ≡ false) refl refl t
 
   -- A tick holds no low and high at once: "CmdStop .. below" CmdStart.
   pub low-excludes-high :
@@ -145,13 +152,19 @@ module _ (d : Drive) (r : Reached d) where
 
   -- ---- flags and gates
 
-  pub no-flag-in-idle : T (is 0 (d .state)) → d .flags ≡ 0
-  no-flag-in-idle t = ap (λ (e : Drive). e .flags) (r .idle t)
+  -- In IDLE there is no flag but flag 12, and outside IDLE there is no flag 12.
+  pub flags-in-idle : T (is 0 (d .state)) → (d .flags ≡ 0) ⊎ (d .flags ≡ 4096)
+  flags-in-idle = in-idle (λ (e : Drive). (e .flags ≡ 0) ⊎ (e .flags ≡ 4096)) (inl refl) (inr refl)
 
-  -- Outside FAULT nothing is live but flag 15, which waits for the next tick.
-  pub live-outside-fault : T (not (is 5 (d .state))) → butHall (liveWord d) ≡ 0
-  live-outside-fault t = eqb-yes (T-not-not (eqb (butHall (liveWord d)) 0) (r .flags .quiet t))
+  pub no-flag-12-outside-idle : T (not (is 0 (d .state))) → T (not (bit 12 (d .flags)))
+  no-flag-12-outside-idle awake = not-T (bit 12 (d .flags)) (λ lit. r .flags .known awake 12 lit)
+
+  -- Outside IDLE and FAULT nothing is live but flag 15, which waits for the next tick.
+  pub live-outside-fault : T (not (is 0 (d .state))) → T (not (is 5 (d .state))) → butHall (liveWord d) ≡ 0
+  live-outside-fault awake t = eqb-yes (T-not-not (eqb (butHall (liveWord d)) 0) (r .flags .quiet awake t))
 
   -- Outside FAULT the gates are off, charge or drive: the brake (3) is FAULT's alone.
   pub no-brake-outside-fault : T (not (is 5 (d .state))) → gate (d .state) (liveWord d) ≤ 2
-  no-brake-outside-fault t = no-brake (d .state) (liveWord d) (live-outside-fault t)
+  no-brake-outside-fault t =
+      decide (is 0 (d .state)) (in-idle (λ (e : Drive). gate (e .state) (liveWord e) ≤ 2) (omega arith) (omega arith))
+      (λ awake. no-brake (d .state) (liveWord d) (live-outside-fault awake t))

@@ -55,8 +55,8 @@ module _ (d : Drive) (r : Reached d) (t : Tick) (outside : T (not (is 0 (d .stat
       → FlagsIn s (d .settings) (d .hall .«dead_streak») (raised d t)
   raised-in s calm tripped =
       record {
-        known = both-within causeBits (d .flags) (standing d t) (r .flags .known) standing-known;
-        quiet = λ u. calm-but-hall (alive (d .settings) (raised d t)) (calm u);
+        known = λ awake. both-within causeBits (d .flags) (standing d t) (r .flags .known outside) standing-known;
+        quiet = λ awake u. calm-but-hall (alive (d .settings) (raised d t)) (calm u);
         tripped = tripped;
         dead = λ live two. new-bit 15 (d .flags) (standing d t) (dead-stands two);
       }
@@ -65,8 +65,8 @@ module _ (d : Drive) (r : Reached d) (t : Tick) (outside : T (not (is 0 (d .stat
   cleared-in : T (not (alight d (standing d t))) → FlagsIn Stop (d .settings) (d .hall .«dead_streak») 0
   cleared-in free =
       record {
-        known = none-within causeBits;
-        quiet = λ u. tt;
+        known = λ awake. none-within causeBits;
+        quiet = λ awake u. tt;
         tripped = λ u. absurd u;
         dead = λ live two.
             absurd

@@ -2,6 +2,7 @@
 use mathlib.Core.Path.{_≡_}
 use mathlib.Core.Bool.{_||_, not}
 use mathlib.Core.List.{List}
+use mathlib.Core.Logic.{_⊎_}
 use Prim.Native.Nat.{ℕ, _*_, _%_, _^_, _≤_, _<_}
 use lib.Dec.{T}
 use lib.IntN.{natAbs}
@@ -25,6 +26,7 @@ use Rattle.drive.specs.Offsets.{zero}
 use Rattle.motor.specs.Counts as Runs
 use Rattle.settings.specs.Rules.{rule}
 use Rattle.drive.specs.Calls.{powerUp}
+use Rattle.drive.specs.Blocks.{marked}
 use Rattle.drive.specs.declared.Drive.{Drive}
 use Rattle.drive.specs.declared.offsets.Pair.{Pair}
 use Rattle.drive.specs.declared.offsets.Offsets.{Offsets}
@@ -102,9 +104,10 @@ butHall word = word % 2 ^ 15
 
 -- the fault word by the state
 pub record FlagsIn (state : State) (settings : List ℕ) (deadStreak flags : ℕ) : Type 0 where
-  pub known : (k : ℕ) → T (bit k flags) → T (bit k causeBits)
-  -- "Outside FAULT, any live flag moves to FAULT": of the live ones only flag 15 waits for a tick
-  pub quiet : T (not (is 5 state)) → T (not (any (butHall (alive settings flags))))
+  -- outside IDLE only causes and samples set flags: there is no flag 12
+  pub known : T (not (is 0 state)) → (k : ℕ) → T (bit k flags) → T (bit k causeBits)
+  -- "Outside FAULT, any live flag moves to FAULT": of the live ones only flag 15 waits for a tick. IDLE takes no tick
+  pub quiet : T (not (is 0 state)) → T (not (is 5 state)) → T (not (any (butHall (alive settings flags))))
   -- FAULT is entered with a live flag, and the flags "stay until cleared"
   pub tripped : T (is 5 state) → T (any (alive settings flags))
   -- "At 2, flag 15 is set", and while the streak stands no exit from FAULT clears the flag, unless it is masked
@@ -112,8 +115,8 @@ pub record FlagsIn (state : State) (settings : List ℕ) (deadStreak flags : ℕ
 
 -- a reached state
 pub record Reached (d : Drive) : Type 0 where
-  -- IDLE is power-up: the first accepted load leaves it, and nothing comes back
-  pub idle : T (is 0 (d .state)) → d ≡ powerUp
+  -- IDLE is power-up, or power-up with flag 12: the first accepted load leaves it, and nothing comes back
+  pub idle : T (is 0 (d .state)) → (d ≡ powerUp) ⊎ (d ≡ marked powerUp)
   -- elsewhere the 24 settings are those of an accepted load
   pub settings : T (not (is 0 (d .state))) → Loaded (d .settings)
   pub hall : HallWithin (d .sensors) (d .hall)

@@ -1,7 +1,7 @@
 //! `reached_bench FILE ...` runs the model of `benchline` over streams and
 //! prints counts of what they reach.
 
-use model::bench_stream::BenchReached;
+use model::bench_reached::BenchReached;
 use std::io::Write;
 
 fn main() -> std::io::Result<()> {

@@ -115,6 +115,8 @@ impl Generator {
             Flag::OverTemperature => settings[Setting::Tshutdown] < MOST_LEVEL,
             // These take more than one tick.
             Flag::Flux | Flag::RotorLock | Flag::HallTimeOut | Flag::HallPattern => false,
+            // No tick sets it.
+            Flag::BlockRefused => false,
         }
     }
 
@@ -131,9 +133,11 @@ impl Generator {
                 fields.vdc_filt = self.random.leaning(0, least_good - 1);
             }
             Flag::OverTemperature => fields.temperature = above(Setting::Tshutdown),
-            Flag::Flux | Flag::RotorLock | Flag::HallTimeOut | Flag::HallPattern => {
-                unreachable!("{flag:?} takes more than one tick")
-            }
+            Flag::Flux
+            | Flag::RotorLock
+            | Flag::BlockRefused
+            | Flag::HallTimeOut
+            | Flag::HallPattern => unreachable!("{flag:?} is not of one tick"),
         }
     }
 

@@ -83,11 +83,11 @@ impl Generator {
         self.stream.extend_from_slice(&bytes[..kept]);
     }
 
-    /// Any letter but the four; small ones are the likeliest slip.  Half of
-    /// the time a whole good record follows: number 6 "ends the run", so it
-    /// must not be read.
+    /// Any letter but the four; small ones are the likeliest slip, and B and N
+    /// are letters of `benchline` alone.  Half of the time a whole good record
+    /// follows: number 6 "ends the run", so it must not be read.
     fn finish_unknown(&mut self) {
-        let mut letter = self.random.pick(b"lmctSX\n\0\xFF");
+        let mut letter = self.random.pick(b"lmctBNSX\n\0\xFF");
         if self.random.chance(500) {
             letter = self.random.between(0, 255) as u8;
         }

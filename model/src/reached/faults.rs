@@ -54,7 +54,7 @@ pub fn add_to_list(list: &mut Vec<String>) {
 
 /// The flags whose causes can stand in FAULT.
 fn holding_flags() -> impl Iterator<Item = Flag> {
-    let flags = Flag::ALL.into_iter();
+    let flags = Flag::OF_CAUSES.into_iter();
     flags.filter(|flag| !Flag::COUNTED.contains(flag))
 }
 

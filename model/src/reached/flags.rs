@@ -36,7 +36,7 @@ pub fn add_to_list(list: &mut Vec<String>) {
     // A tick raises flag 15 only after an exit from FAULT has cleared it while
     // the streak stood, which takes a mask.
     list.push(name(Flag::HallPattern, "tick", false, State::Stop));
-    for flag in Flag::ALL {
+    for flag in Flag::OF_CAUSES {
         list.push(set_name(flag));
     }
 }
@@ -64,7 +64,8 @@ impl Reached {
             Record::Cycle(fields) if layout.dead.contains(&fields.pattern) => DEAD,
             Record::Cycle(_) => STRAY,
         };
-        for flag in Flag::ALL.into_iter().filter(|flag| flag.is_in(raised)) {
+        let flags = Flag::OF_CAUSES.into_iter();
+        for flag in flags.filter(|flag| flag.is_in(raised)) {
             let live = flag.is_in(seen.before.settings.live_bits());
             self.count(set_name(flag));
             let name = name(flag, way, live, seen.before.state);

@@ -1,6 +1,8 @@
 //! Drives and fields that the tests start from.
 #![allow(dead_code, unused_imports)] // every test file uses its own part of this one
 
+pub mod images;
+
 use model::settings::PerSetting;
 pub use model::settings::Setting::{self, *};
 use model::{Answer, CycleFields, Drive, Pair, Reply, State, TickFields};

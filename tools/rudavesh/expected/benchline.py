@@ -1,6 +1,6 @@
 """What the program benchline reads and must print: each refusal in each state, a generated stream, longer than one read, loads of any
 length, and records in the readable text form; their lines by the independent model. Of the refusals the tables of document 01, and M-101
-of document 02, say number and place, too."""
+and M-102 of document 02, say number and place, too."""
 
 import io
 
@@ -8,7 +8,8 @@ from .. import model
 from ..record_form import LOAD
 from ..records_text import read_text, write_text
 from . import Files
-from .refusals import cases, numbered
+from .loads import numbered
+from .refusals import cases
 
 GOOD = list(LOAD.defaults)
 

@@ -1,59 +1,17 @@
-"""Records that give each refusal of load, cycle and tick once and more, in every state and with either number of Hall sensors, and number
-and place of each, worked out from document 01's refusals, settings and fields and from M-101 of document 02. They are the beginning of what
-the program benchline reads: it shows the places."""
+"""Records that give each refusal of load, block load, cycle and tick once and more, in every state and with either number of Hall sensors,
+and number and place of each, worked out from document 01's refusals, settings and fields and from M-101 and M-102 of document 02. They are
+the beginning of what the program benchline reads: it shows the places, and in IDLE flag 12."""
 
-from typing import Iterator, List, NamedTuple, Sequence, Tuple
+from typing import Iterable, Iterator, List, Sequence, Tuple
 
 from ..record_form import CYCLE, LOAD, LOAD_WITH_SENSORS, MOST_PATTERN, TICK, Field, Kind
+from .images import damaged
+from .loads import BAD, GOOD, OF_THREE, OF_TWO, Case, by_block, keeps_rule, load, load_block, load_by_m
 
 SIXTEEN_BITS = range(65536)
-# The paper's example, but for a CriticalOvLevel that leaves VdcOvLevel its whole range.
-GOOD = [4095 if one.name == "CriticalOvLevel" else one.default for one in LOAD.fields]
-BAD = [2, *GOOD[1:]]
-# "Setting 25 chooses 2 or 3 sensors; a load of 24 numbers means 3."
-OF_TWO, OF_THREE = [*GOOD, 2], [*GOOD, 3]
 STILL = [1, 0, 0]
 # A tick that raises no flag.
 QUIET = TICK.defaults
-
-
-class Case(NamedTuple):
-    """A record, and the front of its line: number and place and, where it matters, the state that it shows."""
-
-    record: bytes
-    line: str
-
-
-def in_bytes(numbers: Sequence[int]) -> bytes:
-    return b"".join(number.to_bytes(2, "big") for number in numbers)
-
-
-def numbered(numbers: Sequence[int]) -> bytes:
-    """A load of so many numbers: "N | count (1 byte), then so many numbers"."""
-    return bytes([ord("N"), len(numbers)]) + in_bytes(numbers)
-
-
-def keeps_rule(settings: List[int], field: Field, value: int) -> bool:
-    """Whether a setting at this value keeps its rule, beside the settings given."""
-    relation = field.relation
-    return field.allows(value) and (relation is None or relation.holds(value, settings[LOAD.place(relation.other) - 1]))
-
-
-def load(state: str, numbers: List[int]) -> Case:
-    places = enumerate(zip(LOAD_WITH_SENSORS.fields, numbers), 1)
-    if state not in ("IDLE", "STOP"):
-        line = "4 0"
-    elif len(numbers) not in (len(LOAD.fields), len(LOAD_WITH_SENSORS.fields)):
-        line = "2 0"  # "lengths other than 24 and 25 are 2 at place 0"
-    else:
-        line = next((f"2 {place}" for place, (field, value) in places if not keeps_rule(numbers, field, value)), "0 0")
-    return Case(numbered(numbers), line)
-
-
-def load_by_m(state: str, numbers: List[int]) -> Case:
-    """The same load of 25 numbers by the record that always has so many."""
-    assert len(numbers) == len(LOAD_WITH_SENSORS.fields)
-    return Case(LOAD_WITH_SENSORS.letter.encode() + in_bytes(numbers), load(state, numbers).line)
 
 
 def range_of(field: Field, sensors: int) -> Tuple[int, int]:
@@ -96,6 +54,20 @@ WALK = (
 )
 
 
+# An image with bodies that load takes and one that it refuses; blocks 0 and 14 are empty.
+BODIES = {1: OF_TWO, 4: BAD, 7: GOOD, 13: [*GOOD, 4]}
+DAMAGED = damaged(GOOD, OF_TWO)
+# Flag 12 alone, "always live", as benchline prints the live word.
+FLAG_12 = 4096
+
+
+def by_the_image(state: str) -> Iterator[Case]:
+    """Block loads that are refused by the image or the block asked for, "7 image malformed" before all else."""
+    for name in ("the last byte missing", "kind 2 and zeros", "no byte"):
+        yield from (by_block(block, DAMAGED[name], "7 0") for block in (9, 0, 15))
+    yield from (load_block(state, block, BODIES) for block in (15, 255, 0, 14))
+
+
 def in_state(state: str, number: int, sensors: int) -> Iterator[Case]:
     """What a state refuses, and that it is the state which the answers show."""
     cases = [load(state, numbers) for numbers in (BAD, GOOD[:-1], [*GOOD, 1], [*BAD, 4], [*OF_TWO, 2])]
@@ -103,8 +75,43 @@ def in_state(state: str, number: int, sensors: int) -> Iterator[Case]:
     # Of both kinds of motor, the first pattern that it lacks, also where a sample is bad as well.
     lacking = MOST_PATTERN[sensors] + 1
     cases += [call(state, CYCLE, values, sensors) for values in (put(STILL, 1, lacking), [lacking, 4096, 4096], put(STILL, 1, 8))]
+    cases += by_the_image(state)
+    # In IDLE these would set flag 12.
+    cases += [load_block(state, block, BODIES) for block in (4, 13) if state != "IDLE"]
     for case in [*cases, call(state, TICK, put(QUIET, 1, 2))]:
         yield Case(case.record, f"{case.line} {number}")
+
+
+def showing(live: int, cases: Iterable[Case]) -> Iterator[Case]:
+    """The same in IDLE, where the gates are off, with the live word."""
+    for case in cases:
+        number, place = case.line.split()[:2]
+        yield Case(case.record, f"{number} {place} 0 0 {live}")
+
+
+def in_idle() -> Iterator[Case]:
+    """From power-up to the first accepted load. "A body that it finds and load's own rules refuse in IDLE also sets flag 12, always live,
+    until a load of either kind is accepted": its own answer shows it. What refuses before, and a plain load, sets no flag, and what is
+    refused takes none away."""
+    others = [
+        *in_state("IDLE", 0, 3),
+        *(by_block(block, content, "7 0") for content in DAMAGED.values() for block in (2, 9)),
+        *(call("IDLE", kind, values) for kind, values in ((CYCLE, STILL), (CYCLE, put(STILL, 1, 4)), (TICK, QUIET), (TICK, tick(clear=1)))),
+    ]
+    yield from showing(0, others)
+    yield from showing(FLAG_12, [load_block("IDLE", block, BODIES) for block in (4, 13, 4)])
+    yield from showing(FLAG_12, others)
+    yield from showing(FLAG_12, refused_bodies("IDLE"))
+    accepted = load_block("IDLE", 7, BODIES)
+    yield Case(accepted.record, f"{accepted.line} 1 0 0")
+
+
+def refused_bodies(state: str) -> Iterator[Case]:
+    """For each setting that can be refused, a body of which it is the first that is."""
+    for place, field in enumerate(LOAD_WITH_SENSORS.fields, 1):
+        refused = [value for value in (65535, 0) if not keeps_rule(GOOD, field, value)]
+        if refused:
+            yield load_block(state, place % 15, {place % 15: put(OF_THREE, place, refused[0])})
 
 
 def walk(sensors: int, numbers: List[int]) -> Iterator[Case]:
@@ -114,17 +121,16 @@ def walk(sensors: int, numbers: List[int]) -> Iterator[Case]:
         if state != "STOP":
             yield load(state, numbers)
             yield load_by_m(state, OF_TWO)
+            yield load_block(state, 7, BODIES)
         yield from [call(state, CYCLE, STILL, sensors)] * cycles
         yield call(state, TICK, leaving)
 
 
 def states() -> Iterator[Case]:
-    yield from in_state("IDLE", 0, 3)
-    for kind, values in ((CYCLE, STILL), (CYCLE, put(STILL, 1, 4)), (TICK, QUIET)):
-        yield call("IDLE", kind, values)
-    for state, sensors, numbers in (("IDLE", 3, GOOD), ("STOP", 2, OF_TWO)):
-        yield load(state, numbers)
-        yield from walk(sensors, numbers)
+    yield from in_idle()
+    yield from walk(3, GOOD)
+    yield load("STOP", OF_TWO)
+    yield from walk(2, OF_TWO)
     yield load("STOP", GOOD)
 
 
@@ -138,6 +144,10 @@ def motors() -> Iterator[Case]:
         (3, load("STOP", GOOD)),
         (2, load("STOP", OF_TWO)),
         (3, load("STOP", OF_THREE)),
+        (2, load_block("STOP", 1, BODIES)),
+        (3, load_block("STOP", 7, BODIES)),
+        (2, load_block("STOP", 14, {14: OF_TWO})),
+        (3, load_block("STOP", 0, {0: OF_THREE, 14: BAD})),
     ):
         yield case
         for pattern in range(9):
@@ -206,5 +216,6 @@ def fields() -> Iterator[Case]:
 
 def cases() -> List[Case]:
     """From power-up on. The fields come last: an accepted tick leaves STOP, where no load would be refused as it is here."""
-    settings = [*each_setting(), *sensors(), *several_settings(GOOD), *several_settings(OF_THREE), *sizes()]
+    blocks = [*refused_bodies("STOP"), *(load_block("STOP", block, {block: GOOD}) for block in range(15))]
+    settings = [*blocks, *each_setting(), *sensors(), *several_settings(GOOD), *several_settings(OF_THREE), *sizes()]
     return [*states(), *motors(), *settings, *fields()]

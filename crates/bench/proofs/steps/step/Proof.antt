@@ -2,7 +2,7 @@
 use mathlib.Core.Path.{_≡_, refl, ap, sym, _∙_}
 use mathlib.Core.Bool.{Bool, false, cond}
 use mathlib.Core.List.{List}
-use Prim.Native.Nat.{ℕ, _≤_}
+use Prim.Native.Nat.{ℕ, _+_, _≤_}
 use native.Mathlib.Omega.{arith}
 use lib.ListN.{length, drop, length-drop}
 use denote.Ref.{now}
@@ -12,13 +12,13 @@ use Rattle.drive.specs.declared.Drive.{Drive}
 use Rattle.drive.specs.declared.answer.Reply.{Reply}
 use Rattle.streams.specs.Run.{Front, whole, Outcome, rest, lined, refused, follow, runs, outputAfter}
 use Rattle.streams.proofs.ByFront.{at-tight, one-front, one-whole}
-use Rattle.bench.specs.Table.{Record, as-in-shiftline, callOf, sizeOf, front}
+use Rattle.bench.specs.Table.{Record, as-in-shiftline, imaged, callOf, imagedSize, sizeOf, front}
 use Rattle.bench.specs.Line.{motorLine}
 use Rattle.bench.specs.Benchline.{benchline, ranOf}
 use Rattle.bench.specs.declared.Ran.{Ran}
 use Rattle.bench.specs.declared.find.Found.{Found}
-use Rattle.bench.specs.declared.find.Found.the-variants.{End, Unknown, Short, Load, Cycle, Tick}
-use Rattle.bench.proofs.Meaning.{Loads, Meaning, meaning}
+use Rattle.bench.specs.declared.find.Found.the-variants.{End, Unknown, Short, Load, Cycle, Tick, Image}
+use Rattle.bench.proofs.Meaning.{Loads, Imaged, Meaning, meaning}
 use Rattle.bench.proofs.steps.step.Statement.{statement}
 use Rattle.bench.proofs.steps.step.Tie as tie
 
@@ -73,6 +73,14 @@ module _ (c : tie.After-find) where
   fits known =
       let load = loaded known in
       omega (arith, load .inside, load .some, length-drop (start .args .at) (now (start .args .input)))
+
+  -- a block load
+  imaging : {block size : ℕ} → c .find .result ≡ Image block size → Imaged bytes block size
+  imaging {block} {size} known = means (Image block size) known
+
+  image-fits : {block size : ℕ} → c .find .result ≡ Image block size
+      → start .args .at + imagedSize size ≤ length (now (start .args .input))
+  image-fits known = omega (arith, imaging known .inside, length-drop (start .args .at) (now (start .args .input)))
 
 abbrev told : (c : tie.After-known-told) → tie.After-find
 told c = c .before .before .before
@@ -129,6 +137,15 @@ returns-8 c =
     replied find (as-in-shiftline (ticks _)) (means find (Tick _) (fields .fields2 .given .1)) (tick .tick .ensures)
     (c .before .before .answering3 .ensures)
 
+returns-9 : tie.Need-returns-9
+returns-9 c =
+    let size = c .before .before .before .before in
+    let known = size .before .before in
+    let find = known .before .before .before in
+    let image = imaging find (known .before .block .given .1) in
+    replied find (imaged _ _) (image .is) (size .before .imaged .ensures)
+    (rw (size .imaged-size .ensures, sym (ap imagedSize (image .size-is))) at (c .before .before .answering4 .ensures))
+
 pub step-spec : {M : Type 1} → statement M
 step-spec =
     tie.close (tie.spec (search needs)
@@ -137,5 +154,8 @@ step-spec =
     (search needs) (search needs)
     (λ c κs. let is = c .before .first .given .1 in (fits (told c) is, loaded (told c) is .inside))
     (search needs) (search needs) (search needs) (search needs) (search needs) (search needs) (search needs) (search needs)
+    (search needs)
+    (λ c κs. image-fits (c .before .before .before) (c .before .block .given .1))
+    (search needs) (search needs)
     returns-2 (search needs) returns-3 (search needs) returns-4 returns-5 (search needs) returns-6 (search needs)
-    returns-7 (search needs) returns-8)
+    returns-7 (search needs) returns-8 (search needs) returns-9)

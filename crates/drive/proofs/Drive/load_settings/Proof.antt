@@ -1,33 +1,12 @@
--- `load_settings` settles by the rows of the load, of which that of the length never holds.
-use mathlib.Core.Path.{_≡_}
-use lib.ListN.{length}
+-- `load_settings` leaves the state that it was given, where it is refused.
 use borrow.Author.Needs.{needs}
-use Rattle.settings.specs.Settings.{allSettings}
-use Rattle.settings.proofs.Meant.{meant-of-25}
 use Rattle.drive.specs.Calls.{load}
 use Rattle.drive.proofs.Drive.load_settings.Statement.{statement}
 use Rattle.drive.proofs.Drive.load_settings.Tie as tie
 
-counted : (start : tie.Start) → length (start .args .settings) ≡ allSettings
-counted start = search needs
-
 returns : tie.Need-returns
 unfolding load
-returns c =
-    let chosen = c .before .before .before in
-    let start = chosen .before .before .before in
-    rw (
-      c .settle .ensures,
-      c .before .fresh .ensures,
-      c .before .before .kept .ensures,
-      chosen .chosen .ensures,
-      chosen .before .loadable .ensures,
-      chosen .before .before .verdict .ensures,
-      meant-of-25 (start .args .settings) (counted start),
-      counted start,
-    )
+returns c = c .load-or .ensures
 
 pub load-settings-spec : {M : Type 1} → statement M
-load-settings-spec =
-    tie.close (tie.spec (search needs) (search needs) (search needs) (search needs) (search needs) (search needs)
-    returns)
+load-settings-spec = tie.close (tie.spec (search needs) returns)
