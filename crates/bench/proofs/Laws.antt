@@ -9,6 +9,7 @@ use Rattle.drive.specs.AnyCall.{reply}
 use Rattle.records.proofs.Sizes.{at-least-shortest}
 use Rattle.streams.specs.Run.{end}
 use Rattle.streams.specs.Stream.{Lawful, Held, Roomy}
+use Rattle.streams.proofs.Stream.{by-the-shortest}
 use Rattle.streams.proofs.Grown.{none, few, within, still-unknown, still-whole}
 use Rattle.bench.specs.Table.{Record, as-in-shiftline, numbered, imaged, callOf, sizeOf, front}
 use Rattle.bench.specs.Line.{lineRoom}
@@ -16,7 +17,7 @@ use Rattle.bench.specs.Benchline.{benchline, inputSize, outputSize, most
 use Rattle.bench.proofs.Grown.{ReadOff, mostOf, no-front, grown}
 use Rattle.bench.proofs.Lengths.{line-fits, refusal-fits}
 
-a-byte : (r : Record) → 1 ≤ sizeOf r
+a-byte : (r : Record) → 0 < sizeOf r
 a-byte (as-in-shiftline call) = omega (arith, at-least-shortest call)
 a-byte (numbered given) = omega arith
 a-byte (imaged block image) = omega arith
@@ -28,10 +29,13 @@ empty (x ∷ bytes) none = absurd (omega (arith, none))
 pub lawful : Lawful benchline
 lawful =
     record {
-      shortest = 1;
+      most = lineRoom;
+      per = 1;
       some = omega arith;
-      at-least = a-byte;
-      fits = λ d r. line-fits (reply d (callOf r) .answer);
+      most-fit = omega arith;
+      a-byte = a-byte;
+      fits = λ d bytes r is. line-fits (reply d (callOf r) .answer);
+      at-rate = λ d bytes r is. by-the-shortest 1 lineRoom (a-byte r) (line-fits (reply d (callOf r) .answer));
       refusal-fits = λ d. refusal-fits;
       empty = empty;
       none = none benchline ReadOff mostOf grown;
@@ -43,7 +47,7 @@ lawful =
 -- the lines of everything that the input can hold have room, were each byte a record
 pub roomy : Roomy benchline lawful outputSize inputSize
 unfolding lawful
-roomy = let all : lineRoom * (inputSize + 1) ≤ 1 * outputSize = omega arith in all
+roomy = let all : lineRoom * inputSize + 1 * lineRoom ≤ 1 * outputSize = omega arith in all
 
 abbrev pub held : Held benchline mostHeld
 held =

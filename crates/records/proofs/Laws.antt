@@ -5,11 +5,13 @@ use Prim.Native.Nat.{ℕ, _+_, _*_, _≤_}
 use native.Mathlib.Omega.{arith}
 use lib.ListN.{length}
 use Rattle.drive.specs.Answer.{reply as shown}
-use Rattle.drive.specs.AnyCall.{reply}
+use Rattle.drive.specs.AnyCall.{Call, reply}
+use Rattle.drive.specs.declared.Drive.{Drive}
 use Rattle.report.specs.Refusals.{lineLength}
 use Rattle.report.proofs.Fields.{length-line}
 use Rattle.streams.specs.Run.{end}
 use Rattle.streams.specs.Stream.{Lawful, Held, Roomy}
+use Rattle.streams.proofs.Stream.{by-the-shortest}
 use Rattle.streams.proofs.Grown.{none, few, within, still-unknown, still-whole}
 use Rattle.records.specs.Front.{shortest, front}
 use Rattle.records.specs.Run.{shiftline, inputSize, outputSize, mostHeld}
@@ -21,13 +23,19 @@ unfolding front
 empty [] is = refl
 empty (x ∷ bytes) is = absurd (omega (arith, is))
 
+line-fits : (d : Drive) (r : Call) → length (shiftline .line d r) ≤ lineLength
+line-fits d r = omega (arith, length-line (reply d r .answer))
+
 pub lawful : Lawful shiftline
 lawful =
     record {
-      shortest = shortest;
+      most = lineLength;
+      per = shortest;
       some = omega arith;
-      at-least = at-least-shortest;
-      fits = λ d r. omega (arith, length-line (reply d r .answer));
+      most-fit = omega arith;
+      a-byte = λ r. omega (arith, at-least-shortest r);
+      fits = λ d bytes r is. line-fits d r;
+      at-rate = λ d bytes r is. by-the-shortest shortest lineLength (at-least-shortest r) (line-fits d r);
       refusal-fits = λ d. omega (arith, length-line (shown 6 0 d .answer));
       empty = empty;
       none = none shiftline ReadOff (λ _. mostHeld) grown;
@@ -39,7 +47,7 @@ lawful =
 -- the lines of everything that the input can hold have room
 pub roomy : Roomy shiftline lawful outputSize inputSize
 unfolding lawful
-roomy = let all : lineLength * (inputSize + shortest) ≤ shortest * outputSize = omega arith in all
+roomy = let all : lineLength * inputSize + shortest * lineLength ≤ shortest * outputSize = omega arith in all
 
 -- of any list: no count in a record says how much follows
 abbrev pub held : Held shiftline mostHeld

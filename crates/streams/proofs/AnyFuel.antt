@@ -3,7 +3,7 @@
 use mathlib.Core.Path.{_≡_, refl, ap, sym}
 use mathlib.Core.Bool.{Bool, cond}
 use mathlib.Core.List.{List}
-use Prim.Native.Nat.{ℕ, zero, suc, _-_, _≤_, _<_}
+use Prim.Native.Nat.{ℕ, zero, suc, _-_, _≤_}
 use native.Mathlib.Omega.{arith}
 use lib.Dec.{ltb, ltb→lt, nltb→le}
 use lib.ListN.{length, drop, length-drop}
@@ -22,9 +22,6 @@ follow-same p closed s short same = refl
 follow-same p closed s (whole r) same = ap (onto (p .line s r) (p .sizeOf r)) (same r refl)
 
 module _ {S R : Type 0} {p : Program S R} (law : Lawful p) where
-  pub a-byte : (r : R) → 0 < p .sizeOf r
-  a-byte r = omega (arith, law .some, law .at-least r)
-
   -- without bytes a run rests
   rests : (fuel : ℕ) (closed : Bool) (room : ℕ) (bytes : List ℕ) (s : S) → length bytes ≤ 0
       → runs p (suc fuel) closed room bytes s ≡ rest s
@@ -38,7 +35,7 @@ module _ {S R : Type 0} {p : Program S R} (law : Lawful p) where
       (here : (room other : ℕ) (bytes : List ℕ) → Alike room other bytes → ltb room (p .lineRoom) ≡ ltb other (p .lineRoom))
       (behind : (room other : ℕ) (bytes : List ℕ) (s : S) (r : R)
       → Alike room other bytes
-      → p .sizeOf r ≤ length bytes
+      → p .front bytes ≡ whole r
       → Alike (room - length (p .line s r)) (other - length (p .line s r)) (drop (p .sizeOf r) bytes))
     where
       pub same-run : (fuel more : ℕ) {room other : ℕ} {bytes : List ℕ} (s : S)
@@ -54,13 +51,13 @@ module _ {S R : Type 0} {p : Program S R} (law : Lawful p) where
           (follow-same p closed s (p .front bytes)
           (λ r is.
           let less = length-drop (p .sizeOf r) bytes in
-          same-run fuel more (p .next s r) (behind room other bytes s r alike (law .within bytes r is))
-          (omega (arith, a-byte r, less, enough .0), omega (arith, a-byte r, less, enough .1)))))
+          same-run fuel more (p .next s r) (behind room other bytes s r alike is)
+          (omega (arith, law .a-byte r, less, enough .0), omega (arith, law .a-byte r, less, enough .1)))))
 
   -- in one room
   pub any-fuel : (fuel : ℕ) (closed : Bool) (room : ℕ) (bytes : List ℕ) (s : S) → length bytes ≤ fuel
       → runs p fuel closed room bytes s ≡ run p closed room bytes s
   any-fuel fuel closed room bytes s enough =
       same-run closed (λ room other bytes. room ≡ other) (λ room other bytes same. ap (λ (room : ℕ). ltb room (p .lineRoom)) same)
-      (λ room other bytes s r same all. ap (λ (room : ℕ). room - length (p .line s r)) same)
+      (λ room other bytes s r same is. ap (λ (room : ℕ). room - length (p .line s r)) same)
       fuel (length bytes) s refl (enough, omega arith)

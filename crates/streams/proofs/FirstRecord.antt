@@ -9,7 +9,7 @@ use lib.ListN.{length, drop, length-drop}
 use Rattle.numbers.proofs.Tests.{decide, by-test}
 use Rattle.streams.specs.Run.{Front, end, unknown, short, whole, Program, Outcome, rest, refused, onto, runs, run}
 use Rattle.streams.specs.Stream.{Lawful}
-use Rattle.streams.proofs.AnyFuel.{a-byte, any-fuel}
+use Rattle.streams.proofs.AnyFuel.{any-fuel}
 use Rattle.streams.proofs.ByFront.{at-tight, by-front, one-whole}
 
 module _ {S R : Type 0} {p : Program S R} (law : Lawful p)
@@ -48,9 +48,9 @@ module _ {S R : Type 0} {p : Program S R} (law : Lawful p)
       moves r is =
           let first = one-whole p closed room bytes s wide r is in
           record {
-            fits = rw first (omega (arith, law .fits s r));
+            fits = rw first (omega (arith, law .fits s bytes r is));
             within = rw first (law .within bytes r is);
-            stops = λ none. absurd (omega (arith, a-byte law r, rw first at none));
+            stops = λ none. absurd (omega (arith, law .a-byte r, rw first at none));
             goes = λ _.
                 rw first
                 (spare ∙ by-front p (length bytes) closed room bytes s wide is

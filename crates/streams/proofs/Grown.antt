@@ -55,6 +55,15 @@ module _
         go short (a-part _) e = never (cc)
         go (whole s) (a-record _ _ all) e = let same : s ≡ r = cc in rw same at all
 
+    pub read-off : (bytes : List ℕ) (r : R) → p .front bytes ≡ whole r → ReadOff bytes r
+    read-off bytes r is = go (p .front bytes) (grown bytes []) is
+      where
+        go : (f : Front R) {g : Front R} → Grown (p .sizeOf) ReadOff (mostOf bytes) bytes f g → f ≡ whole r → ReadOff bytes r
+        go end (no-byte _) e = never (cc)
+        go unknown no-record e = never (cc)
+        go short (a-part _) e = never (cc)
+        go (whole s) (a-record _ off _) e = let same : s ≡ r = cc in rw same at off
+
     pub still-unknown : (a b : List ℕ) → p .front a ≡ unknown → p .front (a ++ b) ≡ unknown
     still-unknown a b is = go (p .front a) (p .front (a ++ b)) (grown a b) is
       where

@@ -3,8 +3,8 @@
 use mathlib.Core.Path.{_≡_, refl, ap, sym, subst, _∙_}
 use mathlib.Core.Bool.{Bool, true, false, cond}
 use mathlib.Core.List.{List, [], _∷_, _++_, append-assoc, append-nil, flatten}
-use Prim.Native.Nat.{ℕ, zero, suc, _+_, _-_, _*_, _≤_, _<_}
-use native.Mathlib.Nat.{mul-add, mul-comm, mul-left-comm, mul-le-mul-left, mul-le-mul-right, le-of-mul-le-mul-left}
+use Prim.Native.Nat.{ℕ, zero, suc, _+_, _-_, _*_, _≤_}
+use native.Mathlib.Nat.{mul-add, mul-assoc, mul-comm, mul-le-mul-left, mul-le-mul-right, le-of-mul-le-mul-left}
 use native.Mathlib.Omega.{arith}
 use lib.Dec.{T}
 use lib.ListN.{length, drop, length-append, length-drop}
@@ -12,31 +12,25 @@ use lib.Seq.{drop-append-le, drop-drop}
 use borrow.Author.Tests.{le-ltb}
 use Rattle.streams.specs.Run.{Front, end, unknown, short, whole, Program, Outcome, onto, follow, runs, run}
 use Rattle.streams.specs.Stream.{Lawful, Held, openRun, left, stream, answers, inOne, Fit, Each, Roomy}
-use Rattle.streams.proofs.AnyFuel.{follow-same, a-byte, same-run}
+use Rattle.streams.proofs.AnyFuel.{follow-same, same-run}
 use Rattle.streams.proofs.ByFront.{by-front}
 use Rattle.streams.proofs.LoopOfRun.{onto-none, onto-onto}
 
 -- room for so many bytes and `size` more is, behind a record of that size and its line, room for so many
-one-line-less : (line s count size room wrote : ℕ) → line * (count + size + s) ≤ s * (room + wrote) → s ≤ size → wrote ≤ line
-    → line * (count + s) ≤ s * room
-one-line-less line s count size room wrote roomy long fits =
-    omega (
-      arith,
-      mul-add line (count + size) s,
-      mul-add line count size,
-      mul-add line count s,
-      mul-add s room wrote,
-      mul-le-mul-left line long,
-      mul-le-mul-left s fits,
-      mul-comm s line,
-    )
+one-line-less : (most per line count size room wrote : ℕ) → most * (count + size) + per * line ≤ per * (room + wrote)
+    → per * wrote ≤ most * size
+    → most * count + per * line ≤ per * room
+one-line-less most per line count size room wrote roomy rate = omega (arith, mul-add most count size, mul-add per room wrote)
 
 -- a line for each byte, and one more, is room enough
-a-line-each : (line s count : ℕ) → 0 < s → line * (count + s) ≤ s * (line * (count + 1))
-a-line-each line s count some =
-    let each : 1 * count ≤ s * count = mul-le-mul-right count some in
-    let more : count + s ≤ s * (count + 1) = omega (arith, each, mul-add s count 1) in
-    omega (arith, mul-left-comm s line (count + 1), mul-le-mul-left line more)
+a-line-each : (most per line count : ℕ) → most ≤ per * line → most * count + per * line ≤ per * (line * (count + 1))
+a-line-each most per line count fit =
+    omega (arith, mul-le-mul-right count fit, mul-assoc per line (count + 1), mul-add (per * line) count 1)
+
+-- where no record is shorter than `shortest` and no line longer than `line`, a line has `line` bytes at most for each `shortest` bytes
+pub by-the-shortest : (shortest line : ℕ) {size wrote : ℕ} → shortest ≤ size → wrote ≤ line → shortest * wrote ≤ line * size
+by-the-shortest shortest line {size} {wrote} long fits =
+    omega (arith, mul-le-mul-left shortest fits, mul-le-mul-left line long, mul-comm shortest line)
 
 module _ {S R : Type 0} {p : Program S R} (law : Lawful p) where
   -- what is shown of any bytes from the bytes behind their first record holds of all
@@ -47,35 +41,33 @@ module _ {S R : Type 0} {p : Program S R} (law : Lawful p) where
       → P bytes s)
     where
       in-fuel : (fuel : ℕ) (bytes : List ℕ) (s : S) → length bytes ≤ fuel → P bytes s
-      in-fuel zero bytes s few = behind bytes s (λ r all. absurd (omega (arith, a-byte law r, all)))
+      in-fuel zero bytes s few = behind bytes s (λ r all. absurd (omega (arith, law .a-byte r, all)))
       in-fuel (suc fuel) bytes s few =
           behind bytes s
           (λ r all. in-fuel fuel (drop (p .sizeOf r) bytes) (p .next s r)
-          (omega (arith, a-byte law r, length-drop (p .sizeOf r) bytes)))
+          (omega (arith, law .a-byte r, length-drop (p .sizeOf r) bytes)))
 
       by-records : (bytes : List ℕ) (s : S) → P bytes s
       by-records bytes s = in-fuel (length bytes) bytes s (omega arith)
 
   -- room for the bytes is room for the line of the first record, and behind it for the others
   wide : (room count : ℕ) → Roomy p law room count → p .lineRoom ≤ room
-  wide room count roomy =
-      let s = law .shortest in
-      let line = p .lineRoom in
-      le-of-mul-le-mul-left (omega (arith, roomy, mul-add line count s, mul-comm line s)) (law .some)
+  wide room count roomy = le-of-mul-le-mul-left (omega (arith, roomy)) (law .some)
 
-  roomy-behind : (room : ℕ) (bytes : List ℕ) (s : S) (r : R) → Roomy p law room (length bytes) → p .sizeOf r ≤ length bytes
+  roomy-behind : (room : ℕ) (bytes : List ℕ) (s : S) (r : R) → Roomy p law room (length bytes) → p .front bytes ≡ whole r
       → Roomy p law (room - length (p .line s r)) (length (drop (p .sizeOf r) bytes))
-  roomy-behind room bytes s r roomy all =
+  roomy-behind room bytes s r roomy is =
       let wrote = length (p .line s r) in
-      let count : length bytes ≡ length (drop (p .sizeOf r) bytes) + p .sizeOf r = omega (arith, length-drop (p .sizeOf r) bytes) in
-      let lines : room ≡ room - wrote + wrote = omega (arith, wide room (length bytes) roomy, law .fits s r) in
-      one-line-less (p .lineRoom) (law .shortest) (length (drop (p .sizeOf r) bytes)) (p .sizeOf r) (room - wrote) wrote
+      let count : length bytes ≡ length (drop (p .sizeOf r) bytes) + p .sizeOf r =
+      omega (arith, law .within bytes r is, length-drop (p .sizeOf r) bytes) in
+      let lines : room ≡ room - wrote + wrote = omega (arith, wide room (length bytes) roomy, law .fits s bytes r is) in
+      one-line-less (law .most) (law .per) (p .lineRoom) (length (drop (p .sizeOf r) bytes)) (p .sizeOf r) (room - wrote) wrote
       (subst (λ (room : ℕ). Roomy p law room (length (drop (p .sizeOf r) bytes) + p .sizeOf r)) lines
       (subst (λ (count : ℕ). Roomy p law room count) count roomy))
-      (law .at-least r) (law .fits s r)
+      (law .at-rate s bytes r is)
 
   roomy-for : (count : ℕ) → Roomy p law (p .lineRoom * (count + 1)) count
-  roomy-for count = a-line-each (p .lineRoom) (law .shortest) count (law .some)
+  roomy-for count = a-line-each (law .most) (law .per) (p .lineRoom) count (law .most-fit)
 
   -- how much room there is changes nothing where there is enough
   enough-room : (fuel : ℕ) (closed : Bool) (bytes : List ℕ) (s : S) (room : ℕ) → length bytes ≤ fuel
@@ -87,7 +79,7 @@ module _ {S R : Type 0} {p : Program S R} (law : Lawful p) where
       let here = wide room (length bytes) (both .0) in
       let there = wide other (length bytes) (both .1) in
       rw (le-ltb room (p .lineRoom) here, le-ltb other (p .lineRoom) there))
-      (λ room other bytes s r both all. (roomy-behind room bytes s r (both .0) all, roomy-behind other bytes s r (both .1) all))
+      (λ room other bytes s r both is. (roomy-behind room bytes s r (both .0) is, roomy-behind other bytes s r (both .1) is))
       fuel (length bytes) s (roomy, roomy-for (length bytes)) (fueled, omega arith)
 
   -- the answer to all the bytes, by what stands at their front
@@ -100,7 +92,7 @@ module _ {S R : Type 0} {p : Program S R} (law : Lawful p) where
       ∙ by-front p (length bytes) closed room bytes s (wide room (length bytes) roomy) is
       ∙ follow-same p closed s f
       (λ r same. enough-room (length bytes) closed (drop (p .sizeOf r) bytes) (p .next s r) (room - length (p .line s r))
-      (omega (arith, length-drop (p .sizeOf r) bytes)) (roomy-behind room bytes s r roomy (law .within bytes r (is ∙ same))))
+      (omega (arith, length-drop (p .sizeOf r) bytes)) (roomy-behind room bytes s r roomy (is ∙ same)))
 
   -- the bytes `b` come after an open run over `a`
   module _ (closed : Bool) (b : List ℕ) where
@@ -163,8 +155,7 @@ module _ {S R : Type 0} {p : Program S R} (law : Lawful p) where
     roomy-run : (bytes : List ℕ) (s : S) (closed : Bool) → length bytes ≤ inputSize
         → run p closed outputSize bytes s ≡ answers p closed bytes s
     roomy-run bytes s closed fits =
-        let more : length bytes + law .shortest ≤ inputSize + law .shortest = omega arith in
-        enough-room (length bytes) closed bytes s outputSize (omega arith) (omega (arith, mul-le-mul-left (p .lineRoom) more))
+        enough-room (length bytes) closed bytes s outputSize (omega arith) (omega (arith, room, mul-le-mul-left (law .most) fits))
 
     module _ {mostHeld : ℕ} (few : Held p mostHeld) where
       -- while the run goes on, no more is held than a part of a record, so that there is always room to read more

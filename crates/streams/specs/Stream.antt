@@ -6,12 +6,16 @@ use mathlib.Core.List.{List, [], _∷_, _++_}
 use lib.ListN.{length, drop}
 use Rattle.streams.specs.Run.{end, unknown, short, whole, Program, Outcome, run}
 
--- What makes a program one of records: each takes a byte at least, is read off its own bytes alone, and has room for its line.
+-- What makes a program one of records: each takes a byte at least, is read off its own bytes alone, and has room for its line; and a line
+-- has `most` bytes at most for each `per` bytes of its record.
 pub record Lawful {S R : Type 0} (p : Program S R) : Type 0 where
-  pub shortest : ℕ
-  pub some : 0 < shortest
-  pub at-least : (r : R) → shortest ≤ p .sizeOf r
-  pub fits : (s : S) (r : R) → length (p .line s r) ≤ p .lineRoom
+  pub most : ℕ
+  pub per : ℕ
+  pub some : 0 < per
+  pub most-fit : most ≤ per * p .lineRoom
+  pub a-byte : (r : R) → 0 < p .sizeOf r
+  pub fits : (s : S) (bytes : List ℕ) (r : R) → p .front bytes ≡ whole r → length (p .line s r) ≤ p .lineRoom
+  pub at-rate : (s : S) (bytes : List ℕ) (r : R) → p .front bytes ≡ whole r → per * length (p .line s r) ≤ most * p .sizeOf r
   pub refusal-fits : (s : S) → length (p .refusal s) ≤ p .lineRoom
   pub empty : (bytes : List ℕ) → length bytes ≡ 0 → p .front bytes ≡ end
   pub none : (bytes : List ℕ) → p .front bytes ≡ end → length bytes ≡ 0
@@ -59,9 +63,9 @@ module _ {S R : Type 0} (p : Program S R) where
   abbrev pub inOne : List ℕ → S → List ℕ
   inOne bytes s = answers true bytes s .lines
 
-  -- room for the line of each record that so many bytes can hold, were all of them the shortest, and for one line more
+  -- room for the lines of all records that so many bytes can hold, and for one line more
   abbrev pub Roomy : Lawful p → ℕ → ℕ → Type 0
-  Roomy law room count = p .lineRoom * (count + law .shortest) ≤ law .shortest * room
+  Roomy law room count = law .most * count + law .per * p .lineRoom ≤ law .per * room
 
 -- each piece is of this kind
 unfoldable pub Each : (List ℕ → Type 0) → List (List ℕ) → Type 0
