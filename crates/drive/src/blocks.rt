@@ -13,7 +13,7 @@ ghost use Rattle.drive.specs.Blocks.{marked, blockLoad};
 
 impl Drive {
     // With flag 12.
-    fn marked(self) -> Drive
+    pub(crate) fn marked(self) -> Drive
         ensures { λ r. ⌜ r ≡ marked self ⌝ }
     {
         Drive {

@@ -103,9 +103,9 @@ fn part(lent: &[u8], start: usize, size: usize) -> &[u8]
 pub fn verdict(image: &[u8], block: u8) -> Verdict
     ensures { λ r. ⌜ r ≡ verdict (readRows fifteen (now (image .entry)) block) ⌝ }
 {
-    let found = find(image, true, 0, BLOCKS, block);
+    let searched = find(image, true, 0, BLOCKS, block);
     Verdict {
-        number: found.number,
+        number: searched.number,
         place: 0,
     }
 }

@@ -1,4 +1,11 @@
--- To unfold `computes` is to unfold every definition of the drive, so that a call on written-out values computes.
+-- To unfold `computes` is to unfold every definition of the drive, so that a call on written-out values computes; and so do an image and
+-- what the onlooker reads off it.
+use Rattle.numbers.specs.Bytes
+use Rattle.images.specs.Image
+use Rattle.images.specs.Table
+use Rattle.images.specs.Reads as Reading
+use Rattle.onlooker.specs.Words
+use Rattle.drive.specs.Blocks
 use Rattle.hall.specs.Fate
 use Rattle.hall.specs.Angle
 use Rattle.hall.specs.Sample
@@ -16,4 +23,6 @@ unfoldable pub computes : Unit {0}
 unfolding Fate.fate Fate.beside Angle.twelfth Angle.withOffset Sample.sampled Sample.deadSample Sample.straySample
     Reference.toward Reference.target0 Reference.targetOf Answer.answer Causes.causes Counts.watched Moves.moveOf
     Settings.meant Rules.settingRows Calls.load Calls.cycle Ticks.tick Calls.cycled Ticks.ticked
+    Bytes.numbers Bytes.words Image.pieces Image.imageOf Table.keeps Table.ends Table.kept Table.tabled Table.wellFormed
+    Reading.foundOf Blocks.blockLoad Words.numbersFrom Words.stored
 computes = tt

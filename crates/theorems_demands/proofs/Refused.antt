@@ -104,7 +104,7 @@ module _ (d : Drive) (image : List ℕ) (block : ℕ) where
         decide (isRead fifteen image block) (λ read. yes-and (isRead fifteen image block) (is 0 (d .state)) read idle)
         (λ unread.
         let refused : verdict (readRows fifteen image block) .number ≡ 0 → ⊥ =
-            λ zero. T-not (isRead fifteen image block) (rw zero tt) unread in
+        λ zero. T-not (isRead fifteen image block) (rw zero tt) unread in
         absurd
         (not-2 (not (wellFormed fifteen image)) (leb 15 block) (not (isFilled 0 image block))
         (rw (before-later (readRows fifteen image block) own refused) at two))),

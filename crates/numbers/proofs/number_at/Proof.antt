@@ -7,6 +7,9 @@ use borrow.Author.Needs.{needs}
 use Rattle.numbers.proofs.number_at.Statement.{statement}
 use Rattle.numbers.proofs.number_at.Tie as tie
 
+returns : tie.Need-returns
+returns c = rw (c .joined .ensures, c .before .byte-at .ensures)
+
 returns-2 : tie.Need-returns-2
 returns-2 c =
     let args = c .before .before .args in
@@ -16,4 +19,4 @@ returns-2 c =
 
 pub number-at-spec : {M : Type 1} → statement M
 number-at-spec =
-    tie.close (tie.spec (search needs) (search needs) (search needs) (search needs) (search needs) returns-2)
+    tie.close (tie.spec (search needs) (search needs) (search needs) (search needs) returns returns-2)

@@ -27,14 +27,20 @@ loop-holds c = (search needs, omega arith, refl, refl)
 
 loop-again : tie.Need-loop-again Inv-loop μ-loop
 unfolding ends kept
-loop-again c = (search needs, omega arith, rw add-one cc, rw add-one cc)
+loop-again c =
+    let inv = c .before .before .before .loop .inv in (
+      search needs,
+      omega arith,
+      rw add-one (omega (arith, inv .2, c .wide-at .ensures .0)),
+      rw (c .before .keeps .ensures, inv .3, inv .2, add-one),
+    )
 
 returns-2 : tie.Need-returns-2 Inv-loop μ-loop
 unfolding tabled
 returns-2 c =
     let loop = c .before .loop in
     let end : loop .k ≡ c .before .before .before .before .args .blocks = omega arith in
-    rw (le-leb _ _ (c .before .before .if1 .left)) cc
+    rw (le-leb _ _ (c .before .before .if1 .left), loop .inv .3, loop .inv .2, end)
 
 pub tabled-spec : {M : Type 1} → statement M
 tabled-spec =
