@@ -7,5 +7,8 @@ pub mod Written
 pub mod Read
 pub mod Inverse
 pub mod Made
+pub mod Writing
+pub mod Chosen
+pub mod Examples
 -- Of the promises themselves.
 pub mod OneReply

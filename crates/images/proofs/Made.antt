@@ -1,28 +1,31 @@
 -- What the writer makes of the blocks that it is handed is read back as they are, and every well-formed image is one that it makes.
-use Prim.Native.Nat.{ℕ, zero, suc, _+_, _-_, _≤_, _<_}
+use Prim.Native.Nat.{ℕ, zero, suc, _+_, _-_, _/_, _≤_, _<_}
 use native.Mathlib.Omega.{arith}
 use mathlib.Core.Bool.{Bool, true, false, _&&_, _||_, not, cond}
 use mathlib.Core.Path.{_≡_, refl, sym, ap, _∙_}
 use mathlib.Core.List.{List, [], _∷_, _++_}
 use lib.Dec.{T, eqb, eqb→eq}
 use lib.Ieee.Bits.{is-true}
-use lib.ListN.{length, getD, take, replicate, length-append, length-replicate}
+use lib.ListN.{length, getD, take, drop, replicate, length-append, length-replicate}
 use lib.Seq.{take-at, length-take-le}
 use borrow.Author.Tests.{le-ltb}
-use Rattle.numbers.proofs.Bytes.{Bytes}
-use Rattle.numbers.proofs.Tests.{or-cases}
+use Rattle.numbers.specs.Bytes.{numbers}
+use Rattle.numbers.proofs.Bytes.{Bytes, bytes-take, bytes-drop}
+use Rattle.numbers.proofs.Tests.{by-test, or-cases}
 use Rattle.verdicts.specs.Table.{row, verdict}
 use Rattle.images.specs.Image.{fifteen, Stored, empty, filled, Blocks, Allowed, allowed, lengthAllowed, imageOf}
-use Rattle.images.specs.Table.{wellFormed, blocksIn}
+use Rattle.images.specs.Table.{wellFormed, isFilled, startAt, sizeAt, bodyAt, blocksIn}
 use Rattle.images.specs.Writes.{storedOf, noBlock, storedIn, otherLength, lengthRows, imageIn, writeRows}
 use Rattle.images.specs.declared.Block.{Block}
 use Rattle.images.proofs.Rows.{all-passed, none-refused}
 use Rattle.images.proofs.Inverse.{written-then-read, read-then-written, same-blocks-same-image}
 
--- fifteen blocks, each with an array of 25 numbers, as the code's type has them
+-- what a caller can hand over, as the code's type has it: fifteen blocks, each with a count of one byte and an array of 25 numbers of two
 pub record Handed (blocks : List Block) : Type 0 where
   pub fifteen-blocks : length blocks ≡ 15
+  pub count-fits : (k : ℕ) → k < 15 → getD blocks k noBlock .count < 256
   pub numbers-each : (k : ℕ) → k < 15 → length (getD blocks k noBlock .numbers) ≡ 25
+  pub numbers-fit : (k : ℕ) → k < 15 → (i : ℕ) → getD (getD blocks k noBlock .numbers) i 0 < 65536
 
 -- a block of an allowed length holds that many numbers
 held-allowed : (b : Block) → length (b .numbers) ≡ 25 → otherLength b ≡ false → T (allowed (storedOf b))
@@ -36,6 +39,13 @@ held-allowed b all right = by (b .filled) (lengthAllowed (b .count)) refl refl
         or-cases (eqb (b .count) 24) (eqb (b .count) 25) (rw q tt) (λ e. omega (arith, eqb→eq (b .count) 24 e)) (λ e. omega (arith, eqb→eq (b .count) 25 e)) in
         rw (p, length-take-le (b .count) (b .numbers) few, q) tt
 
+pub allowed-blocks : (blocks : List Block) (lent : ℕ) → Handed blocks → verdict (writeRows blocks lent) .number ≡ 0
+    → Allowed fifteen (storedIn blocks)
+unfolding writeRows
+allowed-blocks blocks lent handed none k below =
+    let each = all-passed 0 blocks _ none .0 in
+    held-allowed (getD blocks k noBlock) (handed .numbers-each k below) (each k (omega (arith, handed .fifteen-blocks)))
+
 -- the image of an accepted writing is well-formed, and has the blocks that were handed over
 pub accepted-is-read :
     (blocks : List Block) (lent : ℕ)
@@ -43,11 +53,8 @@ pub accepted-is-read :
     → verdict (writeRows blocks lent) .number ≡ 0
     → (wellFormed fifteen (imageIn blocks) ≡ true)
     × ((k : ℕ) → k < 15 → blocksIn fifteen (imageIn blocks) k ≡ storedIn blocks k)
-unfolding writeRows imageIn
-accepted-is-read blocks lent handed none =
-    let each = all-passed 0 blocks _ none .0 in
-    written-then-read fifteen (storedIn blocks)
-    (λ k below. held-allowed (getD blocks k noBlock) (handed .numbers-each k below) (each k (omega (arith, handed .fifteen-blocks))))
+unfolding imageIn
+accepted-is-read blocks lent handed none = written-then-read fifteen (storedIn blocks) (allowed-blocks blocks lent handed none)
 
 -- ---- every well-formed image is made
 
@@ -68,6 +75,45 @@ block-holds (filled list) right = (
   rw (is-true (lengthAllowed (length list)) right),
   simp (length-append, length-replicate) (omega (arith, few list right)),
 )
+
+-- ---- and its numbers are numbers of two bytes
+
+abbrev Fit : List ℕ → Type 0
+Fit list = (i : ℕ) → getD list i 0 < 65536
+
+numbers-fit : (count at : ℕ) (bytes : List ℕ) → Bytes bytes → Fit (numbers count at bytes)
+unfolding numbers
+numbers-fit zero at bytes small i = omega arith
+numbers-fit (suc count) at bytes small zero = omega (arith, small at, small (at + 1))
+numbers-fit (suc count) at bytes small (suc i) = numbers-fit count (at + 2) bytes small i
+
+zeros-fit : (n : ℕ) → Fit (replicate n 0)
+zeros-fit zero i = omega arith
+zeros-fit (suc n) zero = omega arith
+zeros-fit (suc n) (suc i) = zeros-fit n i
+
+more-fit : (list : List ℕ) (n : ℕ) → Fit list → Fit (list ++ replicate n 0)
+more-fit [] n fit i = zeros-fit n i
+more-fit (x ∷ list) n fit zero = fit 0
+more-fit (x ∷ list) n fit (suc i) = more-fit list n (λ j. fit (suc j)) i
+
+abbrev FitIn : Stored → Type 0
+FitIn empty = Unit {0}
+FitIn (filled list) = Fit list
+
+read-fits : (image : List ℕ) → Bytes image → (k : ℕ) → FitIn (blocksIn fifteen image k)
+unfolding blocksIn
+read-fits image small k =
+    let start = startAt 0 image k in
+    by-test FitIn (isFilled 0 image k)
+    (λ full.
+    numbers-fit (length (bodyAt 0 image k) / 2) 0 (bodyAt 0 image k)
+    (bytes-take (sizeAt 0 image k) (drop start image) (bytes-drop start image small)))
+    (λ none. tt)
+
+block-fits : (s : Stored) → T (allowed s) → FitIn s → (blockOf s .count < 256) × Fit (blockOf s .numbers)
+block-fits empty right fit = (omega arith, zeros-fit 25)
+block-fits (filled list) right fit = (omega (arith, few list right), more-fit list (25 - length list) fit)
 
 -- the blocks of these numbers, n of them from k on
 unfoldable handing : (ℕ → Block) → ℕ → ℕ → List Block
@@ -119,7 +165,9 @@ module _ (image : List ℕ) (small : Bytes image) (formed : wellFormed fifteen i
     blocks,
     record {
       fifteen-blocks = length-handing (λ (k : ℕ). blockOf (read k)) 15 0;
+      count-fits = λ k below. rw (block-at k below) (block-fits (read k) (right k below) (read-fits image small k) .0);
       numbers-each = λ k below. rw (block-at k below) (block-holds (read k) (right k below) .2);
+      numbers-fit = λ k below. rw (block-at k below) (block-fits (read k) (right k below) (read-fits image small k) .1);
     },
     image-is,
     accepted,

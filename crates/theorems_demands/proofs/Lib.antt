@@ -14,3 +14,4 @@ pub mod Computes
 pub mod Bench
 pub mod NamedRuns
 pub mod WrongDrives
+pub mod WrongFlags
