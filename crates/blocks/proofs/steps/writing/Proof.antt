@@ -2,6 +2,7 @@
 use native.Mathlib.Omega.{arith}
 use denote.Ref.{now}
 use borrow.Author.Needs.{needs}
+use Rattle.text.proofs.Chains.{Puts}
 use Rattle.blocks.specs.Table.{blocksOf}
 use Rattle.blocks.specs.Line.{writesLine}
 use Rattle.blocks.proofs.Fields.{all-put}
@@ -16,9 +17,10 @@ returns c =
     let start = read .before .before .before in
     let args = start .args in
     let blocks = blocksOf (now (args .bytes)) 15 in
-    let put = all-put {line = writesLine (args .lent) (args .holds) blocks}
-    (rw (read .blocks-of .ensures) at (said .writes-line .ensures))
-    (omega (arith, writes-length (args .lent) (args .holds) blocks, start .pre)) in
+    let line : Puts 0 (writesLine (args .lent) (args .holds) blocks) (now (args .output)) (said .writes-line .result)
+    (said .writes-line .last .1 .1 .1 .0) =
+    rw (read .blocks-of .ensures) at (said .writes-line .ensures) in
+    let put = all-put line (omega (arith, writes-length (args .lent) (args .holds) blocks, start .pre)) in
     (rw (put .0), put .1)
 
 pub writing-spec : {M : Type 1} → statement M
