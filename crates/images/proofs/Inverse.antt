@@ -10,7 +10,7 @@ use borrow.Author.Tests.{lt-leb}
 use Rattle.numbers.proofs.Bytes.{Bytes}
 use Rattle.images.specs.Image.{Form, Stored, empty, filled, Blocks, Allowed, pieces, bodyOf, bodies, entries, imageOf}
 use Rattle.images.specs.Table.{wellFormed, blocksIn}
-use Rattle.images.specs.Reads.{foundOf, found, part}
+use Rattle.images.specs.Reads.{numberOf, foundOf, found, part}
 use Rattle.images.proofs.Written as Written
 use Rattle.images.proofs.Read as Read
 
@@ -71,11 +71,6 @@ equal-blocks-equal-images form i j small-i small-j formed-i formed-j same =
     read-then-written form i small-i formed-i .1
     ∙ same-blocks-same-image form (blocksIn form i) (blocksIn form j) same
     ∙ sym (read-then-written form j small-j formed-j .1)
-
--- the number that the reader gives to a block of a well-formed image
-abbrev pub numberOf : Stored → ℕ
-numberOf empty = 9
-numberOf (filled numbers) = 0
 
 -- and so of what the reader gives back: of a filled block the bytes that were written, of an empty one 9 and an empty part
 pub reader-returns :

@@ -15,17 +15,10 @@ use Rattle.numbers.proofs.Tests.{by-test, or-cases}
 use Rattle.verdicts.specs.Table.{row, verdict}
 use Rattle.images.specs.Image.{fifteen, Stored, empty, filled, Blocks, Allowed, allowed, lengthAllowed, imageOf}
 use Rattle.images.specs.Table.{wellFormed, isFilled, startAt, sizeAt, bodyAt, blocksIn}
-use Rattle.images.specs.Writes.{storedOf, noBlock, storedIn, otherLength, lengthRows, imageIn, writeRows}
+use Rattle.images.specs.Writes.{Handed, storedOf, noBlock, storedIn, otherLength, lengthRows, imageIn, writeRows}
 use Rattle.images.specs.declared.Block.{Block}
 use Rattle.images.proofs.Rows.{all-passed, none-refused}
 use Rattle.images.proofs.Inverse.{written-then-read, read-then-written, same-blocks-same-image}
-
--- what a caller can hand over, as the code's type has it: fifteen blocks, each with a count of one byte and an array of 25 numbers of two
-pub record Handed (blocks : List Block) : Type 0 where
-  pub fifteen-blocks : length blocks ≡ 15
-  pub count-fits : (k : ℕ) → k < 15 → getD blocks k noBlock .count < 256
-  pub numbers-each : (k : ℕ) → k < 15 → length (getD blocks k noBlock .numbers) ≡ 25
-  pub numbers-fit : (k : ℕ) → k < 15 → (i : ℕ) → getD (getD blocks k noBlock .numbers) i 0 < 65536
 
 -- a block of an allowed length holds that many numbers
 held-allowed : (b : Block) → length (b .numbers) ≡ 25 → otherLength b ≡ false → T (allowed (storedOf b))

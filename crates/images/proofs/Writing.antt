@@ -13,12 +13,12 @@ use Rattle.numbers.specs.Bytes.{words, numbers}
 use Rattle.verdicts.specs.Table.{Row, row, verdict}
 use Rattle.verdicts.specs.declared.Verdict.{Verdict}
 use Rattle.images.specs.Image.{fifteen, Stored, empty, filled, bodyOf}
-use Rattle.images.specs.Reads.{found, part}
-use Rattle.images.specs.Writes.{noBlock, storedIn, otherLength, lengthRows, imageIn, writeRows, isWritten, written, lentAfter}
+use Rattle.images.specs.Reads.{numberOf, found, part}
+use Rattle.images.specs.Writes.{Handed, noBlock, storedIn, otherLength, lengthRows, imageIn, writeRows, isWritten, written, lentAfter}
 use Rattle.images.specs.declared.Block.{Block}
 use Rattle.images.proofs.Rows.{EachAllowed, none-refused}
-use Rattle.images.proofs.Inverse.{numberOf, reader-returns}
-use Rattle.images.proofs.Made.{Handed, allowed-blocks}
+use Rattle.images.proofs.Inverse.{reader-returns}
+use Rattle.images.proofs.Made.{allowed-blocks}
 
 -- the rows before a block that are passed
 first-of : (place : ℕ) (blocks : List Block) (later : List Row) (k : ℕ)
@@ -69,12 +69,12 @@ module _ (blocks : List Block) (lent : List ℕ) where
   unfolding written writeRows
   accepts each room = rw (all-passed-by 1 blocks (row 5 0 (ltb (length lent) (length (imageIn blocks))) ∷ []) each, le-ltb _ _ room)
 
-  -- "refused, every lent byte stands"
+  -- refused, every lent byte stands
   pub refused-writing : (written blocks (length lent) .number ≡ 0 → ⊥) → lentAfter blocks lent ≡ lent
   unfolding written lentAfter
   refused-writing given = rw (ne-eqb (verdict (writeRows blocks (length lent)) .number) 0 given)
 
-  -- "accepted, bytes after the image stand"
+  -- accepted, the bytes after the image stand
   pub behind-the-image : drop (written blocks (length lent) .size) (lentAfter blocks lent) ≡ drop (written blocks (length lent) .size) lent
   unfolding written lentAfter
   behind-the-image = by (isWritten blocks (length lent))

@@ -7,7 +7,7 @@ use lib.Dec.{eqb, leb}
 use lib.ListN.{take, drop}
 use denote.Ref.{RefT}
 use Rattle.verdicts.specs.Table.{Row, row, verdict}
-use Rattle.images.specs.Image.{Form, front}
+use Rattle.images.specs.Image.{Form, front, Stored, empty, filled}
 use Rattle.images.specs.Table.{wellFormed, isFilled, startAt, sizeAt}
 use Rattle.images.specs.declared.reader.Found.{Found}
 
@@ -41,6 +41,11 @@ module _ (form : Form) (image : List ℕ) (block : ℕ) where
   -- the bytes that the reader gives back
   abbrev pub part : List ℕ
   part = take (found .size) (drop (found .start) image)
+
+-- the number that the reader gives to a block of a well-formed image
+abbrev pub numberOf : Stored → ℕ
+numberOf empty = 9
+numberOf (filled numbers) = 0
 
 -- a part of lent bytes: so many of them from a place on. Which bytes they are, and that they lie in the caller's own memory, at this place
 -- of it.

@@ -1,6 +1,7 @@
 -- Document 02, M-102: the writer, and what it is handed.
-use Prim.Native.Nat.{ℕ, _+_}
+use Prim.Native.Nat.{ℕ, _+_, _<_}
 use mathlib.Core.Bool.{Bool, false, _&&_, not, cond}
+use mathlib.Core.Path.{_≡_}
 use mathlib.Core.List.{List, [], _∷_, _++_}
 use lib.Dec.{eqb, ltb}
 use lib.ListN.{length, getD, take, drop}
@@ -19,6 +20,13 @@ noBlock = record { filled = false; count = 0; numbers = [] }
 
 abbrev pub storedIn : List Block → Blocks
 storedIn blocks k = storedOf (getD blocks k noBlock)
+
+-- what a caller can hand over, as the code's type has it: fifteen blocks, each with a count of one byte and an array of 25 numbers of two
+pub record Handed (blocks : List Block) : Type 0 where
+  pub fifteen-blocks : length blocks ≡ 15
+  pub count-fits : (k : ℕ) → k < 15 → getD blocks k noBlock .count < 256
+  pub numbers-each : (k : ℕ) → k < 15 → length (getD blocks k noBlock .numbers) ≡ 25
+  pub numbers-fit : (k : ℕ) → k < 15 → (i : ℕ) → getD (getD blocks k noBlock .numbers) i 0 < 65536
 
 -- "a body of another length": a filled block whose count is neither 24 nor 25
 abbrev pub otherLength : Block → Bool
@@ -49,7 +57,7 @@ written blocks lent =
       size = cond (isWritten blocks lent) (length (imageIn blocks)) 0;
     }
 
--- the lent bytes: the image, and after it what they held; refused, "every lent byte stands"
+-- the lent bytes: the image, and after it what they held; refused, every lent byte stands
 unfoldable pub lentAfter : List Block → List ℕ → List ℕ
 lentAfter blocks lent =
     cond (isWritten blocks (length lent)) (imageIn blocks ++ drop (length (imageIn blocks)) lent) lent

@@ -14,8 +14,8 @@ use Rattle.states.specs.States.{is}
 use Rattle.settings.specs.Settings.{meant}
 use Rattle.images.specs.Image.{fifteen, empty, filled, Blocks, Allowed, bodyOf, imageOf}
 use Rattle.images.specs.Table.{wellFormed, numbersIn}
-use Rattle.images.specs.Reads.{readRows, foundOf}
-use Rattle.images.proofs.Inverse.{numberOf, reader-returns, taken-is-made}
+use Rattle.images.specs.Reads.{numberOf, readRows, foundOf}
+use Rattle.images.proofs.Inverse.{reader-returns, taken-is-made}
 use Rattle.images.proofs.Written as Written
 use Rattle.drive.specs.Answer.{answer, reply as shown}
 use Rattle.drive.specs.Refusals.{loadRows}

@@ -39,21 +39,7 @@ use Rattle.records.specs.Front.{front}
 use Rattle.streams.specs.Run.{Outcome, rest, refused, follow, runs, outputAfter}
 use Rattle.records.specs.Run.{shiftline, ranOf}
 use Rattle.drive.proofs.Settles.{refusal}
-
--- the table of refusals of a call
-abbrev pub rows : Drive → Call → List Row
-rows d (loads numbers) = loadRows d numbers
-rows d (cycles fields) = cycleRows d fields
-rows d (ticks fields) = tickRows d fields
-rows d (blockLoads image block) = blockRows d image block
-
--- 02, M-102, which "amends demand 1 and the rule that a refusal changes nothing": the one place where it does not hold. A block load finds
--- the body, in IDLE.
-abbrev pub amended : Drive → Call → Bool
-amended d (loads numbers) = false
-amended d (cycles fields) = false
-amended d (ticks fields) = false
-amended d (blockLoads image block) = isRead fifteen image block && is 0 (d .state)
+use Rattle.theorems_demands.specs.Amended.{rows, amended, isBlockLoad}
 
 -- a call that answers another number than 0 leaves the state, but there with flag 12, and shows what it leaves with the number and place of
 -- the first row that holds
@@ -126,12 +112,6 @@ module _ (d : Drive) (image : List ℕ) (block : ℕ) where
       (λ both. same ∙ told .0 both, λ two. told .1 (sym same ∙ two))
 
 -- In a caller's words: a refused call leaves the drive as it is, but for a block load in IDLE that is answered with 2.
-abbrev pub isBlockLoad : Call → Bool
-isBlockLoad (loads numbers) = false
-isBlockLoad (cycles fields) = false
-isBlockLoad (ticks fields) = false
-isBlockLoad (blockLoads image block) = true
-
 pub refused-leaves :
     (d : Drive) (call : Call)
     → (reply d call .answer .number ≡ 0 → ⊥)

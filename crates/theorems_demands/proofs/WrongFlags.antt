@@ -19,17 +19,12 @@ use Rattle.drive.specs.declared.answer.Answer.{Answer}
 use Rattle.drive.specs.declared.answer.Reply.{Reply}
 use Rattle.theorems_reached.specs.Machine.{machineOf}
 use Rattle.theorems_demands.specs.NamedCalls.{settingsWith, loaded}
+use Rattle.theorems_demands.specs.Amended.{isBlockLoad}
 use Rattle.theorems_demands.specs.FlagTwelve.{isLoad, loadedYet, lit}
 use Rattle.theorems_demands.proofs.Computes.{computes}
 
 abbrev Replies : Type 0
 Replies = Drive → Call → Reply
-
-abbrev isBlockLoad : Call → Bool
-isBlockLoad (loads numbers) = false
-isBlockLoad (cycles fields) = false
-isBlockLoad (ticks fields) = false
-isBlockLoad (blockLoads image block) = true
 
 -- the same refusal, with flag 12 or with no flag
 abbrev withFlag : Reply → Reply

@@ -1,4 +1,5 @@
 pub mod Supervised
+pub mod Amended
 pub mod FlagTwelve
 pub mod NamedCalls
 pub mod Bench

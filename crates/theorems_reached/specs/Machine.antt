@@ -1,4 +1,4 @@
--- The drive as a machine: its three calls, each with the state that it leaves and the answer that it gives.
+-- The drive as a machine: its calls, each with the state that it leaves and the answer that it gives.
 use Rattle.theorems_history.specs.Log.{Machine}
 use Rattle.drive.specs.Calls.{powerUp}
 use Rattle.drive.specs.AnyCall.{Call, reply}
