@@ -18,7 +18,8 @@ fields-more [] n = rw append-nil
 fields-more (m ∷ list) n = rw (fields-more list n, append-assoc (field m) (fields list) (field n))
 
 -- those of the first numbers, and of one more
-pub fields-next : (list : List ℕ) (i : ℕ) → i < length list → fields (take (suc i) list) ≡ fields (take i list) ++ field (getD list i 0)
+pub fields-next : (list : List ℕ) (i : ℕ) → i < length list
+    → fields (take (suc i) list) ≡ fields (take i list) ++ field (getD list i 0)
 fields-next list i inside = rw (take-suc list i 0 inside) (fields-more (take i list) (getD list i 0))
 
 pub length-fields : (list : List ℕ) → length (fields list) ≤ 21 * length list
@@ -31,7 +32,8 @@ pub two-first : (n p : ℕ) (more : List ℕ) → decimal n ++ field p ++ fields
 unfolding fields
 two-first n p more = append-assoc (decimal n) (field p) (fields more)
 
-pub three-first : (n p s : ℕ) (more : List ℕ) → decimal n ++ field p ++ field s ++ fields more ≡ decimal n ++ fields (p ∷ s ∷ more)
+pub three-first : (n p s : ℕ) (more : List ℕ)
+    → decimal n ++ field p ++ field s ++ fields more ≡ decimal n ++ fields (p ∷ s ∷ more)
 unfolding fields
 three-first n p s more = simp append-assoc
 

@@ -101,7 +101,8 @@ module _ (a b : List ℕ) where
       (λ head. rw (number-kept a b 1 (omega arith), byte-kept a b 3 (omega arith))
       (sized (number 1 a) (blocks-grown (number 1 a) (byte 3 a))))
 
-  both : (test : Bool) {f g f′ g′ : Front Record} → Grown a f f′ → Grown a g g′ → Grown a (cond test f g) (cond test f′ g′)
+  both : (test : Bool) {f g f′ g′ : Front Record} → Grown a f f′ → Grown a g g′
+      → Grown a (cond test f g) (cond test f′ g′)
   both true p q = p
   both false p q = q
 

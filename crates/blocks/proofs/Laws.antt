@@ -28,7 +28,8 @@ abbrev lineRate : ℕ
 lineRate = 1267
 
 -- the line of a record that is read off the bytes has room, and no more bytes than the rate allows
-fitting : (bytes : List ℕ) (r : Record) → ReadOff bytes r → (length (lineFor r) ≤ lineRoom) × (length (lineFor r) ≤ lineRate * sizeOf r)
+fitting : (bytes : List ℕ) (r : Record) → ReadOff bytes r
+    → (length (lineFor r) ≤ lineRoom) × (length (lineFor r) ≤ lineRate * sizeOf r)
 fitting bytes (reads block image) (off, most) =
     let long = reads-length block image in
     (omega arith, omega arith)
@@ -38,7 +39,8 @@ fitting bytes (writes lent holds blocks) (off, most) =
     let size : 34 ≤ headSize + sizesOf blocks = rw (off, sizes-are bytes 15) (at-least bytes 15) in
     (omega arith, omega arith)
 
-fits : (bytes : List ℕ) (r : Record) → front bytes ≡ whole r → (length (lineFor r) ≤ lineRoom) × (length (lineFor r) ≤ lineRate * sizeOf r)
+fits : (bytes : List ℕ) (r : Record) → front bytes ≡ whole r
+    → (length (lineFor r) ≤ lineRoom) × (length (lineFor r) ≤ lineRate * sizeOf r)
 fits bytes r is = fitting bytes r (read-off blockline ReadOff (λ _. mostHeld) grown bytes r is)
 
 pub lawful : Lawful blockline

@@ -47,7 +47,8 @@ unfolding writeRows
 image-fits blocks lent none =
     by (ltb lent (length (imageIn blocks))) refl (all-passed 0 blocks (row 5 0 (ltb lent (length (imageIn blocks))) ∷ []) none .1)
   where
-    by : (t : Bool) → ltb lent (length (imageIn blocks)) ≡ t → verdict (row 5 0 t ∷ []) .number ≡ 0 → length (imageIn blocks) ≤ lent
+    by : (t : Bool) → ltb lent (length (imageIn blocks)) ≡ t → verdict (row 5 0 t ∷ []) .number ≡ 0
+        → length (imageIn blocks) ≤ lent
     by true e z = absurd (omega arith)
     by false e z = ltb-false lent (length (imageIn blocks)) e
 

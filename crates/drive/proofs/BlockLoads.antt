@@ -1,7 +1,7 @@
 -- The block load by what the reader says: of a block that is found it is the load of its numbers, but for what a refusal leaves; else the
 -- reader's own refusal.
 use Prim.Native.Nat.{ℕ, _/_}
-use mathlib.Core.Bool.{Bool, true, _||_, cond}
+use mathlib.Core.Bool.{true, _||_, cond}
 use mathlib.Core.Path.{_≡_}
 use mathlib.Core.List.{List}
 use lib.Dec.{eqb}
@@ -28,7 +28,8 @@ module _ (d : Drive) (image : List ℕ) (block : ℕ) where
   unfolding blockLoad foundOf
   found-loads none = rw (behind-passed (readRows fifteen image block) (loadRows d (blockNumbers image block)) tt none, none)
 
-  pub not-found : (verdict (readRows fifteen image block) .number ≡ 0 → ⊥) → settle (verdict (readRows fifteen image block)) d d ≡ blockLoad d image block
+  pub not-found : (verdict (readRows fifteen image block) .number ≡ 0 → ⊥)
+      → settle (verdict (readRows fifteen image block)) d d ≡ blockLoad d image block
   unfolding blockLoad foundOf
   not-found refused =
       rw (before-later (readRows fifteen image block) (loadRows d (blockNumbers image block)) refused, ne-eqb _ 0 refused)

@@ -1,5 +1,5 @@
--- Documents 01 and 02: any call that changes the state, and what it replies. How "sequences hand each call the state that the call before left" stands in
--- `theorems_history`.
+-- Documents 01 and 02: any call that changes the state, and what it replies. How "sequences hand each call the state that the call before
+-- left" stands in `theorems_history`.
 use mathlib.Core.List.{List}
 use Prim.Native.Nat.{ℕ}
 use Rattle.drive.specs.Calls.{load, cycle}

@@ -54,7 +54,8 @@ fresh state settings sensors =
 abbrev pub powerUp : Drive
 powerUp = fresh Idle (replicate settingCount 0) Three
 
--- what a call but an accepted load leaves: "no cycle or tick changes" the settings, nor the sensors; the rest is given, in the order of the state
+-- what a call but an accepted load leaves: "no cycle or tick changes" the settings, nor the sensors; the rest is given, in the order of
+-- the state
 abbrev pub becomes :
     Drive
     → (state : State) (hall : Hall) (flags cycles ticks : ℕ) (offsets : Offsets) (run : Run) (armed : Bool) (retries : ℕ)

@@ -1,6 +1,6 @@
 -- "The analog choice is floor(count x 15 / 4096)": the block is the one whose fifteenth of the range holds the count, and it is one of the
 -- fifteen, so no reader refuses it with 8.
-use Prim.Native.Nat.{ℕ, _+_, _*_, _/_, _≤_, _<_}
+use Prim.Native.Nat.{ℕ, _+_, _*_, _≤_, _<_}
 use native.Mathlib.Omega.{arith}
 use mathlib.Core.Path.{_≡_, refl}
 use borrow.Author.Tests.{lt-ltb, le-ltb}

@@ -1,12 +1,12 @@
 -- An image written out byte by byte from the request's words, so that definition, reader and writer are not only each other's inverse, but
 -- the paper's. And images that break one of its sentences each. antt computes each.
 use Prim.Native.Nat.{ℕ}
-use mathlib.Core.Bool.{Bool, true, false, _&&_, not, cond}
+use mathlib.Core.Bool.{Bool, true, _&&_, not, cond}
 use mathlib.Core.Path.{_≡_, refl}
 use mathlib.Core.List.{List, [], _∷_, _++_}
 use lib.Dec.{eqb}
 use lib.ListN.{take, drop, replicate, set}
-use Rattle.numbers.specs.Bytes.{numbers, words}
+use Rattle.numbers.specs.Bytes.{words}
 use Rattle.images.specs.Image.{fifteen, Stored, empty, filled, pieces, imageOf}
 use Rattle.images.specs.Table.{keeps, ends, kept, tabled, wellFormed}
 
@@ -14,8 +14,8 @@ use Rattle.images.specs.Table.{keeps, ends, kept, tabled, wellFormed}
 abbrev none : List ℕ
 none = 0 ∷ 0 ∷ 0 ∷ 0 ∷ 0 ∷ []
 
--- Block 2 has 24 numbers, block 9 has 25. "First come 15 entries", 75 bytes; the body of block 2 begins at 75 and has 48 bytes; that of block
--- 9 follows "without gaps" at 123, and has 50. Of each body the first number is 258, "high byte first" 1 and 2; the others are 0.
+-- Block 2 has 24 numbers, block 9 has 25. "First come 15 entries", 75 bytes; the body of block 2 begins at 75 and has 48 bytes; that of
+-- block 9 follows "without gaps" at 123, and has 50. Of each body the first number is 258, "high byte first" 1 and 2; the others are 0.
 abbrev written : List ℕ
 written =
     none ++ none

@@ -1,8 +1,8 @@
 -- The blocks that the writer is handed: how long their bodies are.
-use Prim.Native.Nat.{ℕ, zero, suc, _*_, _/_, _≤_, min}
+use Prim.Native.Nat.{ℕ, _*_, _/_, _≤_, min}
 use mathlib.Core.Bool.{Bool, true, false}
 use mathlib.Core.Path.{_≡_, refl, ap}
-use mathlib.Core.List.{List, [], _∷_}
+use mathlib.Core.List.{List}
 use native.Mathlib.Omega.{arith}
 use lib.Dec.{ltb}
 use lib.ListN.{length, take, length-take}
@@ -31,7 +31,8 @@ take-min n l = by (ltb n (length l)) refl
         rw (all, take-length l, take-all n l past)
 
 -- the numbers that a block holds are as many as half its body is long
-pub held : (b : Block) → length (b .numbers) ≡ 25 → words (take (length (bodyOf (storedOf b)) / 2) (b .numbers)) ≡ bodyOf (storedOf b)
+pub held : (b : Block) → length (b .numbers) ≡ 25
+    → words (take (length (bodyOf (storedOf b)) / 2) (b .numbers)) ≡ bodyOf (storedOf b)
 unfolding words
 held b all = by (b .filled) refl
   where

@@ -82,7 +82,8 @@ unfolding foundOf
 reader-returns form blocks right k below = by (blocks k) refl
   where
     by : (s : Stored) → blocks k ≡ s
-        → (found form (imageOf form blocks) k .number ≡ numberOf (blocks k)) × (part form (imageOf form blocks) k ≡ bodyOf (blocks k))
+        → (found form (imageOf form blocks) k .number ≡ numberOf (blocks k))
+        × (part form (imageOf form blocks) k ≡ bodyOf (blocks k))
     by empty is =
         let formed = Written.well-formed form blocks right in
         let inside = lt-leb (form .blocks) k below in

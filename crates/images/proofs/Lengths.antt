@@ -2,22 +2,23 @@
 use Prim.Native.Nat.{ℕ, zero, suc, _+_, _*_, _≤_, _<_}
 use native.Mathlib.Nat.{mul-suc}
 use native.Mathlib.Omega.{arith}
-use mathlib.Core.Bool.{Bool, true, false, _||_}
-use mathlib.Core.Path.{_≡_, refl, sym, ap, _∙_}
-use mathlib.Core.List.{List, [], _∷_, _++_}
+use mathlib.Core.Bool.{true, _||_}
+use mathlib.Core.Path.{_≡_, refl}
+use mathlib.Core.List.{List}
 use lib.Dec.{T, eqb, eqb→eq}
 use lib.ListN.{length, length-append}
 use Rattle.numbers.specs.Bytes.{words}
 use Rattle.numbers.proofs.Bytes.{length-words}
 use Rattle.numbers.proofs.Tests.{or-cases}
-use Rattle.images.specs.Image.{Form, front, Stored, empty, filled, Blocks, allowed, bodyOf, bodies, entryAt, startOf, entryOf, entries, imageOf, pieces}
+use Rattle.images.specs.Image.{Form, Stored, empty, filled, Blocks, allowed, bodyOf, startOf, entryOf, entries, imageOf, pieces}
 
 pub length-entry : (s : Stored) (start : ℕ) → length (entryOf s start) ≡ 5
 length-entry empty start = refl
 length-entry (filled numbers) start = refl
 
 -- pieces of one length
-pub length-even : (piece : ℕ → List ℕ) (size : ℕ) → ((i : ℕ) → length (piece i) ≡ size) → (k : ℕ) → length (pieces piece k) ≡ size * k
+pub length-even : (piece : ℕ → List ℕ) (size : ℕ) → ((i : ℕ) → length (piece i) ≡ size) → (k : ℕ)
+    → length (pieces piece k) ≡ size * k
 unfolding pieces
 length-even piece size same zero = omega arith
 length-even piece size same (suc k) = rw (length-append, same k, length-even piece size same k, mul-suc)

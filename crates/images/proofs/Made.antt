@@ -1,21 +1,21 @@
 -- What the writer makes of the blocks that it is handed is read back as they are, and every well-formed image is one that it makes.
 use Prim.Native.Nat.{ℕ, zero, suc, _+_, _-_, _/_, _≤_, _<_}
 use native.Mathlib.Omega.{arith}
-use mathlib.Core.Bool.{Bool, true, false, _&&_, _||_, not, cond}
+use mathlib.Core.Bool.{Bool, true, false}
 use mathlib.Core.Path.{_≡_, refl, sym, ap, _∙_}
 use mathlib.Core.List.{List, [], _∷_, _++_}
 use lib.Dec.{T, eqb, eqb→eq}
 use lib.Ieee.Bits.{is-true}
-use lib.ListN.{length, getD, take, drop, replicate, length-append, length-replicate}
+use lib.ListN.{length, getD, drop, replicate, length-append, length-replicate}
 use lib.Seq.{take-at, length-take-le}
 use borrow.Author.Tests.{le-ltb}
 use Rattle.numbers.specs.Bytes.{numbers}
 use Rattle.numbers.proofs.Bytes.{Bytes, bytes-take, bytes-drop}
 use Rattle.numbers.proofs.Tests.{by-test, or-cases}
-use Rattle.verdicts.specs.Table.{row, verdict}
-use Rattle.images.specs.Image.{fifteen, Stored, empty, filled, Blocks, Allowed, allowed, lengthAllowed, imageOf}
+use Rattle.verdicts.specs.Table.{verdict}
+use Rattle.images.specs.Image.{fifteen, Stored, empty, filled, Blocks, Allowed, allowed, lengthAllowed}
 use Rattle.images.specs.Table.{wellFormed, isFilled, startAt, sizeAt, bodyAt, blocksIn}
-use Rattle.images.specs.Writes.{Handed, storedOf, noBlock, storedIn, otherLength, lengthRows, imageIn, writeRows}
+use Rattle.images.specs.Writes.{Handed, storedOf, noBlock, storedIn, otherLength, imageIn, writeRows}
 use Rattle.images.specs.declared.Block.{Block}
 use Rattle.images.proofs.Rows.{all-passed, none-refused}
 use Rattle.images.proofs.Inverse.{written-then-read, read-then-written, same-blocks-same-image}
@@ -29,7 +29,8 @@ held-allowed b all right = by (b .filled) (lengthAllowed (b .count)) refl refl
     by true false p q = let z : true ≡ false = rw (p, q) at right in let w : _≡_ {A = ℕ} 0 1 = cc in absurd (omega arith)
     by true true p q =
         let few : b .count ≤ length (b .numbers) =
-        or-cases (eqb (b .count) 24) (eqb (b .count) 25) (rw q tt) (λ e. omega (arith, eqb→eq (b .count) 24 e)) (λ e. omega (arith, eqb→eq (b .count) 25 e)) in
+        or-cases (eqb (b .count) 24) (eqb (b .count) 25) (rw q tt)
+        (λ e. omega (arith, eqb→eq (b .count) 24 e)) (λ e. omega (arith, eqb→eq (b .count) 25 e)) in
         rw (p, length-take-le (b .count) (b .numbers) few, q) tt
 
 pub allowed-blocks : (blocks : List Block) (lent : ℕ) → Handed blocks → verdict (writeRows blocks lent) .number ≡ 0
@@ -61,7 +62,8 @@ few list right =
     or-cases (eqb (length list) 24) (eqb (length list) 25) right (λ e. omega (arith, eqb→eq (length list) 24 e))
     (λ e. omega (arith, eqb→eq (length list) 25 e))
 
-block-holds : (s : Stored) → T (allowed s) → (storedOf (blockOf s) ≡ s) × (otherLength (blockOf s) ≡ false) × (length (blockOf s .numbers) ≡ 25)
+block-holds : (s : Stored) → T (allowed s)
+    → (storedOf (blockOf s) ≡ s) × (otherLength (blockOf s) ≡ false) × (length (blockOf s .numbers) ≡ 25)
 block-holds empty right = (refl, refl, refl)
 block-holds (filled list) right = (
   ap filled (take-at list (replicate (25 - length list) 0) (length list) refl),

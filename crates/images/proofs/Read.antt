@@ -2,17 +2,18 @@
 use Prim.Native.Nat.{ℕ, zero, suc, _+_, _*_, _/_, _%_, _≤_, _<_}
 use native.Mathlib.Numerals.{add-one}
 use native.Mathlib.Omega.{arith}
-use mathlib.Core.Bool.{Bool, true, false, _&&_, _||_, cond}
+use mathlib.Core.Bool.{Bool, true, false, _||_}
 use mathlib.Core.Path.{_≡_, refl, sym, ap, _∙_}
 use mathlib.Core.List.{List, [], _∷_, _++_, append-assoc, append-nil}
 use lib.Dec.{T, eqb}
-use lib.ListN.{length, getD, take, drop, length-append, length-take, length-drop}
-use lib.Seq.{take-add, take-all, drop-cons, getD-take, getD-drop, length-take-le}
-use borrow.Author.Tests.{eq-eqb, ne-eqb, eqb-true}
-use Rattle.numbers.specs.Bytes.{byte, number, numbers, word, words}
+use lib.ListN.{length, take, drop, length-take, length-drop}
+use lib.Seq.{take-add, take-all, drop-cons}
+use borrow.Author.Tests.{eqb-true}
+use Rattle.numbers.specs.Bytes.{byte, numbers, words}
 use Rattle.numbers.proofs.Bytes.{Bytes, bytes-take, bytes-drop, words-numbers, length-numbers}
-use Rattle.images.specs.Image.{Form, front, Stored, empty, filled, Blocks, Allowed, allowed, pieces, bodyOf, bodies, entryAt, startOf, entryOf, entries, imageOf}
-use Rattle.images.specs.Table.{kindAt, offsetAt, lengthAt, begins, ends, tabled, wellFormed, isFilled, startAt, sizeAt, bodyAt, numbersIn, blocksIn}
+use Rattle.images.specs.Image.{Form, front, filled, Blocks, Allowed, allowed, pieces, bodyOf, bodies, entryAt, startOf, entryOf}
+use Rattle.images.specs.Image.{entries, imageOf}
+use Rattle.images.specs.Table.{kindAt, offsetAt, lengthAt, begins, ends, wellFormed, blocksIn}
 use Rattle.images.proofs.Table.{both, Entry, zeros, body, ends-rise, Tabled, tabled-gives}
 use Rattle.images.proofs.Lengths.{start-next}
 
@@ -99,7 +100,8 @@ module _ (form : Form) (image : List ℕ) (h : wellFormed form image ≡ true) (
 
     bytes-are :
         take 5 (drop (at k) image)
-        ≡ byte (at k) image ∷ byte (at k + 1) image ∷ byte (at k + 1 + 1) image ∷ byte (at k + 3) image ∷ byte (at k + 3 + 1) image ∷ []
+        ≡ byte (at k) image ∷ byte (at k + 1) image ∷ byte (at k + 1 + 1) image
+        ∷ byte (at k + 3) image ∷ byte (at k + 3 + 1) image ∷ []
     bytes-are = five image (at k) (omega (arith, t .room))
 
     of-zeros : kindAt image (at k) ≡ 0 → offsetAt image (at k) ≡ 0 → lengthAt image (at k) ≡ 0 → OfEntry k
@@ -168,5 +170,6 @@ module _ (form : Form) (image : List ℕ) (h : wellFormed form image ≡ true) (
   image-is =
       sym (take-all (ends before n image n) image (omega (arith, t .whole)))
       ∙ bodies-are n (omega arith)
-      ∙ ap (λ (l : List ℕ). l ++ bodies read n) (entries-are n (omega arith) ∙ ap (λ (l : List ℕ). l ++ entries form read n) head-is)
+      ∙ ap (λ (l : List ℕ). l ++ bodies read n)
+      (entries-are n (omega arith) ∙ ap (λ (l : List ℕ). l ++ entries form read n) head-is)
       ∙ append-assoc (form .head) (entries form read n) (bodies read n)

@@ -39,7 +39,8 @@ row-at blocks later (suc k) some within =
     let before : suc k - 1 ≡ k = omega arith in rw (before, one-more blocks later k within, add-one k)
 
 -- a row of number 2 before others: where nothing is refused, it does not hold
-passed : (holds : Bool) (place : ℕ) (rest : Verdict) → first (row 2 place holds) rest .number ≡ 0 → (holds ≡ false) × (rest .number ≡ 0)
+passed : (holds : Bool) (place : ℕ) (rest : Verdict) → first (row 2 place holds) rest .number ≡ 0
+    → (holds ≡ false) × (rest .number ≡ 0)
 passed true place rest none = absurd (omega arith)
 passed false place rest none = (refl, none)
 

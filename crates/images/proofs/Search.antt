@@ -5,7 +5,7 @@ use mathlib.Core.Path.{_≡_, refl}
 use mathlib.Core.Bool.{Bool, true, false, _&&_, _||_}
 use mathlib.Core.List.{List}
 use lib.Dec.{eqb, leb, eqb→eq}
-use lib.ListN.{length, take, drop, length-take, length-drop}
+use lib.ListN.{length, length-take, length-drop}
 use borrow.Author.Tests.{eqb-true, leb-true, leb-false}
 use Rattle.numbers.proofs.Tests.{or-cases}
 use Rattle.images.specs.Image.{Form, front, entryAt}
@@ -31,7 +31,8 @@ pub way : (formed : Bool) (before blocks : ℕ) (image : List ℕ) (block : ℕ)
 unfolding foundOf
 way formed before blocks image block = by formed (leb blocks block) (isFilled before image block) refl refl refl
   where
-    by : (f a e : Bool) → formed ≡ f → leb blocks block ≡ a → isFilled before image block ≡ e → Way formed before blocks image block
+    by : (f a e : Bool) → formed ≡ f → leb blocks block ≡ a → isFilled before image block ≡ e
+        → Way formed before blocks image block
     by false a e p q r = malformed p (rw p)
     by true true e p q r = above p (leb-true blocks block q) (rw (p, q))
     by true false false p q r = empty p (leb-false blocks block q) r (rw (p, q, r))

@@ -1,12 +1,12 @@
 -- What a table of entries that is kept tells of each entry and of where its body lies.
-use Prim.Native.Nat.{ℕ, zero, suc, _+_, _*_, _≤_, _<_}
+use Prim.Native.Nat.{ℕ, zero, suc, _+_, _≤_, _<_}
 use native.Mathlib.Nat.{eq-or-lt-of-le}
 use native.Mathlib.Omega.{arith}
 use mathlib.Core.Logic.{⊎-elim}
-use mathlib.Core.Path.{_≡_, refl, sym, _∙_}
-use mathlib.Core.Bool.{Bool, true, false, _&&_, _||_, cond}
+use mathlib.Core.Path.{_≡_, refl}
+use mathlib.Core.Bool.{Bool, true, false, _&&_, _||_}
 use mathlib.Core.List.{List}
-use lib.Dec.{T, eqb, leb}
+use lib.Dec.{eqb, leb}
 use lib.ListN.{length}
 use borrow.Author.Tests.{eqb-true, leb-true}
 use Rattle.images.specs.Image.{entryAt}
@@ -19,7 +19,8 @@ both false b h = let z : _≡_ {A = ℕ} 0 1 = cc in absurd (omega arith)
 -- the two ways of an entry that keeps its rule
 pub data Entry (image : List ℕ) (at end : ℕ) : Type 0 where
   zeros : kindAt image at ≡ 0 → offsetAt image at ≡ 0 → lengthAt image at ≡ 0 → Entry image at end
-  body : kindAt image at ≡ 1 → offsetAt image at ≡ end → (eqb (lengthAt image at) 48 || eqb (lengthAt image at) 50) ≡ true → Entry image at end
+  body : kindAt image at ≡ 1 → offsetAt image at ≡ end → (eqb (lengthAt image at) 48 || eqb (lengthAt image at) 50) ≡ true
+      → Entry image at end
 
 pub entry : (image : List ℕ) (at end : ℕ) → keeps image at end ≡ true → Entry image at end
 unfolding keeps

@@ -1,22 +1,21 @@
 -- What a caller of the writer is told and handed back, of any blocks and any lent bytes; and that what was written is read back by the
 -- reader's own replies.
-use Prim.Native.Nat.{ℕ, zero, suc, _+_, _/_, _≤_, _<_}
+use Prim.Native.Nat.{ℕ, zero, suc, _+_, _≤_, _<_}
 use native.Mathlib.Omega.{arith}
 use mathlib.Core.Bool.{Bool, true, false, cond}
-use mathlib.Core.Path.{_≡_, refl, sym, ap, _∙_}
+use mathlib.Core.Path.{_≡_, refl}
 use mathlib.Core.List.{List, [], _∷_, _++_}
-use lib.Dec.{eqb, ltb}
+use lib.Dec.{ltb}
 use lib.ListN.{length, getD, take, drop}
 use lib.Seq.{take-at, drop-at}
 use borrow.Author.Tests.{ne-eqb, lt-ltb, le-ltb}
-use Rattle.numbers.specs.Bytes.{words, numbers}
 use Rattle.verdicts.specs.Table.{Row, row, verdict}
-use Rattle.verdicts.specs.declared.Verdict.{Verdict}
-use Rattle.images.specs.Image.{fifteen, Stored, empty, filled, bodyOf}
+use Rattle.images.specs.Image.{fifteen, bodyOf}
 use Rattle.images.specs.Reads.{numberOf, found, part}
-use Rattle.images.specs.Writes.{Handed, noBlock, storedIn, otherLength, lengthRows, imageIn, writeRows, isWritten, written, lentAfter}
+use Rattle.images.specs.Writes.{Handed, noBlock, storedIn, otherLength, lengthRows, imageIn, writeRows, isWritten, written}
+use Rattle.images.specs.Writes.{lentAfter}
 use Rattle.images.specs.declared.Block.{Block}
-use Rattle.images.proofs.Rows.{EachAllowed, none-refused}
+use Rattle.images.proofs.Rows.{EachAllowed}
 use Rattle.images.proofs.Inverse.{reader-returns}
 use Rattle.images.proofs.Made.{allowed-blocks}
 
@@ -36,7 +35,8 @@ first-of place (b ∷ blocks) later (suc k) inside before bad =
     (first-of (place + 1) blocks later k (omega arith) (λ i below. before (suc i) (omega arith)) bad)
 
 -- where each block is allowed, the verdict is that of the later rows
-all-passed-by : (place : ℕ) (blocks : List Block) (later : List Row) → EachAllowed blocks → verdict (lengthRows place blocks later) ≡ verdict later
+all-passed-by : (place : ℕ) (blocks : List Block) (later : List Row) → EachAllowed blocks
+    → verdict (lengthRows place blocks later) ≡ verdict later
 unfolding lengthRows
 all-passed-by place [] later each = refl
 all-passed-by place (b ∷ blocks) later each =
@@ -44,7 +44,8 @@ all-passed-by place (b ∷ blocks) later each =
 
 returned : (blocks : List Block) (lent : ℕ) → Handed blocks → written blocks lent .number ≡ 0
     → (k : ℕ) → k < 15
-    → (found fifteen (imageIn blocks) k .number ≡ numberOf (storedIn blocks k)) × (part fifteen (imageIn blocks) k ≡ bodyOf (storedIn blocks k))
+    → (found fifteen (imageIn blocks) k .number ≡ numberOf (storedIn blocks k))
+    × (part fifteen (imageIn blocks) k ≡ bodyOf (storedIn blocks k))
 unfolding written imageIn
 returned blocks lent handed none k below = reader-returns fifteen (storedIn blocks) (allowed-blocks blocks lent handed none) k below
 
@@ -75,7 +76,8 @@ module _ (blocks : List Block) (lent : List ℕ) where
   refused-writing given = rw (ne-eqb (verdict (writeRows blocks (length lent)) .number) 0 given)
 
   -- accepted, the bytes after the image stand
-  pub behind-the-image : drop (written blocks (length lent) .size) (lentAfter blocks lent) ≡ drop (written blocks (length lent) .size) lent
+  pub behind-the-image : drop (written blocks (length lent) .size) (lentAfter blocks lent)
+      ≡ drop (written blocks (length lent) .size) lent
   unfolding written lentAfter
   behind-the-image = by (isWritten blocks (length lent))
     where
@@ -86,7 +88,8 @@ module _ (blocks : List Block) (lent : List ℕ) where
       by false = refl
 
   -- the image is the first `size` of the lent bytes
-  pub image-written : written blocks (length lent) .number ≡ 0 → take (written blocks (length lent) .size) (lentAfter blocks lent) ≡ imageIn blocks
+  pub image-written : written blocks (length lent) .number ≡ 0
+      → take (written blocks (length lent) .size) (lentAfter blocks lent) ≡ imageIn blocks
   unfolding written lentAfter
   image-written none = rw none (take-at (imageIn blocks) (drop (length (imageIn blocks)) lent) (length (imageIn blocks)) refl)
 

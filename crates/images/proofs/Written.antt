@@ -1,23 +1,25 @@
 -- The image that blocks have is well-formed, and the blocks that it has are these: "Writing then reading returns each block".
-use Prim.Native.Nat.{ℕ, zero, suc, _+_, _*_, _/_, _%_, _≤_, _<_}
+use Prim.Native.Nat.{ℕ, zero, suc, _+_, _/_, _≤_, _<_}
 use native.Mathlib.Nat.{eq-or-lt-of-le, add-zero}
 use native.Mathlib.Omega.{arith}
-use mathlib.Core.Bool.{Bool, true, false, _&&_, _||_, cond}
+use mathlib.Core.Bool.{true, false}
 use mathlib.Core.Logic.{⊎-elim}
 use mathlib.Core.Path.{_≡_, refl, sym, ap, _∙_}
 use mathlib.Core.List.{List, [], _∷_, _++_, append-assoc, append-nil}
-use lib.Dec.{T, eqb, leb}
-use lib.ListN.{length, getD, take, drop, length-append, List·getD-append}
+use lib.ListN.{length, take, drop, length-append, List·getD-append}
 use lib.Seq.{getD-append-add, take-at, drop-at}
-use borrow.Author.Tests.{eq-eqb, ne-eqb, le-leb}
-use Rattle.numbers.specs.Bytes.{byte, number, numbers, word, words}
+use borrow.Author.Tests.{eq-eqb, le-leb}
+use Rattle.numbers.specs.Bytes.{byte, number, words}
 use Rattle.numbers.proofs.Bytes.{word-number, length-words, numbers-words}
-use Rattle.images.specs.Image.{Form, front, Stored, empty, filled, Blocks, Allowed, pieces, bodyOf, bodies, entryAt, startOf, entryOf, entries, imageOf}
-use Rattle.images.specs.Table.{kindAt, offsetAt, lengthAt, keeps, begins, ends, kept, tabled, wellFormed, isFilled, startAt, sizeAt, bodyAt, numbersIn, blocksIn}
-use Rattle.images.proofs.Lengths.{length-entry, length-even, length-entries, length-image, start-next, Size, none, some, size}
+use Rattle.images.specs.Image.{Form, front, Stored, empty, filled, Blocks, Allowed, pieces, bodyOf, bodies, entryAt, startOf}
+use Rattle.images.specs.Image.{entryOf, entries, imageOf}
+use Rattle.images.specs.Table.{kindAt, offsetAt, lengthAt, keeps, begins, ends, kept, tabled, wellFormed, isFilled, startAt, bodyAt}
+use Rattle.images.specs.Table.{numbersIn, blocksIn}
+use Rattle.images.proofs.Lengths.{length-entry, length-entries, length-image, start-next, Size, none, some, size}
 
 -- the pieces from k on
-pieces-at : (piece : ℕ → List ℕ) (n k : ℕ) → k < n → (rest : List ℕ) × (pieces piece n ≡ pieces piece k ++ (piece k ++ rest))
+pieces-at : (piece : ℕ → List ℕ) (n k : ℕ) → k < n
+    → (rest : List ℕ) × (pieces piece n ≡ pieces piece k ++ (piece k ++ rest))
 unfolding pieces
 pieces-at piece zero k below = absurd (omega arith)
 pieces-at piece (suc n) k below =
@@ -136,13 +138,15 @@ module _ (form : Form) (blocks : Blocks) where
         )
 
   -- what an entry says of its block
-  pub body-is : (k : ℕ) → k < form .blocks → (list : List ℕ) → blocks k ≡ filled list → bodyAt (front form) image k ≡ words list
+  pub body-is : (k : ℕ) → k < form .blocks → (list : List ℕ) → blocks k ≡ filled list
+      → bodyAt (front form) image k ≡ words list
   body-is k below list is =
       let start : startAt (front form) image k ≡ startOf form blocks k =
       offset k below ∙ rw is (word-number (startOf form blocks k)) in
       rw (long-is k below, start, body-there k below, is)
 
-  pub filled-is : (k : ℕ) → k < form .blocks → (list : List ℕ) → blocks k ≡ filled list → isFilled (front form) image k ≡ true
+  pub filled-is : (k : ℕ) → k < form .blocks → (list : List ℕ) → blocks k ≡ filled list
+      → isFilled (front form) image k ≡ true
   filled-is k below list is = rw (kind k below, is)
 
   pub empty-is : (k : ℕ) → k < form .blocks → blocks k ≡ empty → isFilled (front form) image k ≡ false

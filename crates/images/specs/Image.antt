@@ -7,7 +7,7 @@
 -- Everything here and in Table.antt, and all that is proved of it, is said of any form of image: of any number of blocks, and of whatever
 -- bytes stand before the entries.
 use Prim.Native.Nat.{ℕ, zero, suc, _+_, _*_, _<_}
-use mathlib.Core.Bool.{Bool, true, false, _||_}
+use mathlib.Core.Bool.{Bool, true, _||_}
 use mathlib.Core.List.{List, [], _∷_, _++_}
 use lib.Dec.{T, eqb}
 use lib.ListN.{length}

@@ -1,6 +1,6 @@
 -- Document 02, M-102: the blocks that given bytes have, or that they are malformed. That this is the inverse of `imageOf` (Image.antt), so
 -- that neither has to be believed alone, is proved in proofs/Inverse.antt.
-use Prim.Native.Nat.{ℕ, zero, suc, _+_, _*_, _/_}
+use Prim.Native.Nat.{ℕ, zero, suc, _+_, _/_}
 use mathlib.Core.Bool.{Bool, true, false, _&&_, _||_, cond}
 use mathlib.Core.List.{List, [], _∷_}
 use lib.Dec.{eqb, leb}

@@ -6,7 +6,7 @@ use mathlib.Core.List.{List, [], _∷_, _++_}
 use lib.Dec.{eqb, ltb}
 use lib.ListN.{length, getD, take, drop}
 use Rattle.verdicts.specs.Table.{Row, row, verdict}
-use Rattle.images.specs.Image.{Form, fifteen, Stored, empty, filled, Blocks, lengthAllowed, imageOf}
+use Rattle.images.specs.Image.{fifteen, Stored, empty, filled, Blocks, lengthAllowed, imageOf}
 use Rattle.images.specs.declared.Block.{Block}
 use Rattle.images.specs.declared.writer.Written.{Written}
 

@@ -1,5 +1,5 @@
 -- Numbers in bytes, one after the other: how many they are, where each stands, and that reading and writing are inverse.
-use mathlib.Core.Path.{_≡_, refl, sym, ap, _∙_}
+use mathlib.Core.Path.{_≡_, refl, ap, _∙_}
 use mathlib.Core.List.{List, [], _∷_, _++_}
 use Prim.Native.Nat.{ℕ, zero, suc, _+_, _*_, _/_, _%_, _≤_, _<_}
 use native.Mathlib.Nat.{div-add-mod'}
@@ -35,7 +35,8 @@ numbers-drop (suc count) at k bytes =
     rw (next, later, numbers-drop count (at + 2) k bytes, getD-drop, getD-drop)
 
 -- and ask for no byte behind their last
-pub numbers-take : (count at n : ℕ) (bytes : List ℕ) → at + 2 * count ≤ n → numbers count at (take n bytes) ≡ numbers count at bytes
+pub numbers-take : (count at n : ℕ) (bytes : List ℕ) → at + 2 * count ≤ n
+    → numbers count at (take n bytes) ≡ numbers count at bytes
 unfolding numbers
 numbers-take zero at n bytes room = refl
 numbers-take (suc count) at n bytes room =
@@ -46,11 +47,13 @@ numbers-take (suc count) at n bytes room =
     )
 
 -- the first of more numbers
-pub take-numbers : (count more at : ℕ) (bytes : List ℕ) → count ≤ more → take count (numbers more at bytes) ≡ numbers count at bytes
+pub take-numbers : (count more at : ℕ) (bytes : List ℕ) → count ≤ more
+    → take count (numbers more at bytes) ≡ numbers count at bytes
 unfolding numbers
 take-numbers zero more at bytes fewer = refl
 take-numbers (suc count) zero at bytes fewer = absurd (omega arith)
-take-numbers (suc count) (suc more) at bytes fewer = ap (λ (l : List ℕ). number at bytes ∷ l) (take-numbers count more (at + 2) bytes (omega arith))
+take-numbers (suc count) (suc more) at bytes fewer =
+    ap (λ (l : List ℕ). number at bytes ∷ l) (take-numbers count more (at + 2) bytes (omega arith))
 
 pub length-words : (list : List ℕ) → length (words list) ≡ 2 * length list
 unfolding words
@@ -64,7 +67,8 @@ words-more [] n = refl
 words-more (m ∷ list) n = ap (λ (l : List ℕ). m / 256 ∷ m % 256 ∷ l) (words-more list n)
 
 -- the words of the first numbers, and of one more
-pub words-next : (list : List ℕ) (i : ℕ) → i < length list → words (take (suc i) list) ≡ words (take i list) ++ word (getD list i 0)
+pub words-next : (list : List ℕ) (i : ℕ) → i < length list
+    → words (take (suc i) list) ≡ words (take i list) ++ word (getD list i 0)
 words-next list i inside = rw (take-suc list i 0 inside) (words-more (take i list) (getD list i 0))
 
 -- a number is the one that its two bytes are
@@ -99,7 +103,8 @@ bytes-append (x ∷ a) b of-a of-b zero = of-a 0
 bytes-append (x ∷ a) b of-a of-b (suc i) = bytes-append a b (λ i. of-a (suc i)) of-b i
 
 -- and reading, then writing
-pub words-numbers : (count : ℕ) (bytes : List ℕ) → length bytes ≡ 2 * count → Bytes bytes → words (numbers count 0 bytes) ≡ bytes
+pub words-numbers : (count : ℕ) (bytes : List ℕ) → length bytes ≡ 2 * count → Bytes bytes
+    → words (numbers count 0 bytes) ≡ bytes
 unfolding numbers words
 words-numbers zero [] long small = refl
 words-numbers zero (a ∷ bytes) long small = absurd (omega arith)

@@ -78,4 +78,5 @@ reply-printed d (ticks fields) lent same room =
     rw same (settle-printed (verdict (tickRows d fields)) (ticked d fields) d lent (verdict-small (tickRows d fields) tt) room)
 reply-printed d (blockLoads image block) lent same room =
     rw same
-    (settle-printed (verdict (blockRows d image block)) _ (leftByBlock d image block) lent (verdict-small (blockRows d image block) tt) room)
+    (settle-printed (verdict (blockRows d image block)) _ (leftByBlock d image block) lent
+    (verdict-small (blockRows d image block) tt) room)

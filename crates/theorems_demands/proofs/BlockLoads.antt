@@ -1,5 +1,5 @@
--- "A block load call reads a block and loads its body": what it replies is told by the blocks of the image and by the plain load alone. Every
--- image is either the one that some blocks have, or malformed (`images` Inverse.antt), so this is all that it ever replies.
+-- "A block load call reads a block and loads its body": what it replies is told by the blocks of the image and by the plain load alone.
+-- Every image is either the one that some blocks have, or malformed (`images` Inverse.antt), so this is all that it ever replies.
 use Prim.Native.Nat.{ℕ, _≤_, _<_}
 use native.Mathlib.Omega.{arith}
 use mathlib.Core.Bool.{Bool, true, false, _&&_, not, cond}
@@ -117,4 +117,5 @@ pub no-latch-for-blocks : (d : Drive) (image : List ℕ) (k : ℕ) → blockLoad
     → blockLoad (marked d) image k ≡ blockLoad d image k
 unfolding blockLoad
 no-latch-for-blocks d image k accepted =
-    latched (verdict (blockRows d image k)) (loaded (meant (blockNumbers image k))) (leftByBlock d image k) (leftByBlock (marked d) image k) accepted
+    latched (verdict (blockRows d image k)) (loaded (meant (blockNumbers image k)))
+    (leftByBlock d image k) (leftByBlock (marked d) image k) accepted

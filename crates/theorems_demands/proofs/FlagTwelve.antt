@@ -2,8 +2,8 @@
 use Prim.Native.Nat.{ℕ, _*_}
 use native.Mathlib.Nat.{zero-add}
 use native.Mathlib.Omega.{arith}
-use mathlib.Core.Bool.{Bool, true, false, not, _&&_, _||_, cond}
-use mathlib.Core.Path.{_≡_, refl, sym, ap, subst, _∙_}
+use mathlib.Core.Bool.{Bool, true, false, not, _&&_, cond}
+use mathlib.Core.Path.{_≡_, refl, sym, ap, _∙_}
 use mathlib.Core.List.{List, [], _∷_}
 use lib.Dec.{T, eqb, ltb, not-T}
 use lib.IntN.{pos}
@@ -25,7 +25,7 @@ use Rattle.theorems_history.specs.Log.{Entry, stateAfter, log}
 use Rattle.images.specs.Image.{fifteen}
 use Rattle.images.specs.Table.{wellFormed}
 use Rattle.images.specs.Reads.{foundOf, isRead}
-use Rattle.drive.specs.Answer.{liveWord, answer, reply as replied}
+use Rattle.drive.specs.Answer.{liveWord, answer}
 use Rattle.drive.specs.Refusals.{loadRows, cycleRows, tickRows}
 use Rattle.drive.specs.Flags.{alwaysLive, alive}
 use Rattle.drive.specs.Calls.{settle, loaded, cycled}
@@ -112,7 +112,8 @@ module _ (d : Drive) (r : Reached d) (log : Log) (told : Told d log) where
   loads-told e numbers now = record { asleep = rw now; dark = λ loaded. rw now; shown = λ asleep. absurd (not-both (rw now at asleep)) }
 
   -- a refused call of the three
-  refused : (call : Call) (number at : ℕ) → finds call ≡ false → eqb number 0 ≡ false → Told d (made call (answer number at d) ∷ log)
+  refused : (call : Call) (number at : ℕ) → finds call ≡ false → eqb number 0 ≡ false
+      → Told d (made call (answer number at d) ∷ log)
   unfolding answer
   refused call number at plain given =
       stays (made call (answer number at d)) d (rw given (no-and (isLoad call))) (rw plain) refl (λ asleep. refl)
@@ -238,7 +239,8 @@ unfolding stateAfter log
 flag-twelve call earlier =
     let before = stateAfter machine earlier in
     ap (bit 12) (answer-shows before call)
-    ∙ live-shows (reply before call .drive) (every-reached (call ∷ earlier)) (log machine (call ∷ earlier)) (all-told (call ∷ earlier))
+    ∙ live-shows (reply before call .drive) (every-reached (call ∷ earlier)) (log machine (call ∷ earlier))
+    (all-told (call ∷ earlier))
 
 -- "always live": whatever FaultEnable is
 pub always-live : (settings : List ℕ) (flags : ℕ) → bit 12 (alive settings flags) ≡ bit 12 flags

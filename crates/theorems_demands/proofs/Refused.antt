@@ -83,7 +83,8 @@ module _ (d : Drive) (image : List ℕ) (block : ℕ) where
   unfolding foundOf
   amended-is-2 idle given = (
     λ both.
-        let read = eqb→eq (verdict (readRows fifteen image block) .number) 0 (and-yes (isRead fifteen image block) (is 0 (d .state)) both .0) in
+        let read = eqb→eq (verdict (readRows fifteen image block) .number) 0
+        (and-yes (isRead fifteen image block) (is 0 (d .state)) both .0) in
         let same = behind-passed (readRows fifteen image block) own tt read in
         rw same (own-2 idle (λ zero. given (rw same zero))),
     λ two.

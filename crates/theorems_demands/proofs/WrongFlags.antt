@@ -1,8 +1,9 @@
--- Wrong drives about flag 12: each is this drive but for one thing, in its state and its account of itself alike. `lit`, which sees calls and
--- answers alone, tells each at the last call of a run that is written out. antt computes each verdict. (This drive passes: FlagTwelve.antt.)
+-- Wrong drives about flag 12: each is this drive but for one thing, in its state and its account of itself alike. `lit`, which sees calls
+-- and answers alone, tells each at the last call of a run that is written out. antt computes each verdict. (This drive passes:
+-- FlagTwelve.antt.)
 use mathlib.Core.Path.{_≡_, refl}
-use mathlib.Core.Bool.{Bool, true, false, not, _&&_, _||_, cond, Bool·beq}
-use mathlib.Core.List.{List, [], _∷_, _++_, reverse}
+use mathlib.Core.Bool.{Bool, true, not, _&&_, cond, Bool·beq}
+use mathlib.Core.List.{List, [], _∷_, reverse}
 use Prim.Native.Nat.{ℕ}
 use lib.Dec.{eqb}
 use Rattle.faults.specs.Word.{bit}

@@ -1,6 +1,6 @@
 -- Demand 1: "Bad input is refused with the number and place in document 01; the drive state and any lent bytes then stand as before."
--- Document 02, M-102: "A body that it finds and load's own rules refuse in IDLE also sets flag 12 ..; this amends demand 1 and the rule that
--- a refusal changes nothing."
+-- Document 02, M-102: "A body that it finds and load's own rules refuse in IDLE also sets flag 12 ..; this amends demand 1 and the rule
+-- that a refusal changes nothing."
 use mathlib.Core.Bool.{Bool, true, false, _&&_}
 use mathlib.Core.List.{List}
 use Rattle.verdicts.specs.Table.{Row}

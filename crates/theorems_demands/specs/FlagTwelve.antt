@@ -1,6 +1,6 @@
--- Document 02, M-102, of calls and answers: "A body that it finds and load's own rules refuse in IDLE also sets flag 12, always live, until a
--- load of either kind is accepted .. The plain load, refused, sets no flag." Whoever reads a log can tell from it when flag 12 stands; the
--- live word of each answer says the same.
+-- Document 02, M-102, of calls and answers: "A body that it finds and load's own rules refuse in IDLE also sets flag 12, always live,
+-- until a load of either kind is accepted .. The plain load, refused, sets no flag." Whoever reads a log can tell from it when flag 12
+-- stands; the live word of each answer says the same.
 use Prim.Native.Nat.{_*_}
 use mathlib.Core.Bool.{Bool, true, false, not, _&&_, _||_}
 use mathlib.Core.Path.{_≡_}

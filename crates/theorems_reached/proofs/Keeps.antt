@@ -159,7 +159,8 @@ cycled-reached d c r outside pattern first second =
       armed = r .armed;
       flags =
           record {
-            known = λ awake. both-within causeBits (d .flags) _ (r .flags .known outside) (flag-within causeBits 15 (sample d c .flagged) tt);
+            known = λ awake. both-within causeBits (d .flags) _ (r .flags .known outside)
+                (flag-within causeBits 15 (sample d c .flagged) tt);
             quiet = λ awake t. rw (same-but-hall (d .settings) (d .flags) (sample d c .flagged)) (r .flags .quiet awake t);
             tripped = λ t. old-stays alwaysLive (FaultEnable (d .settings)) (d .flags) _ (r .flags .tripped t);
             dead = λ live two.

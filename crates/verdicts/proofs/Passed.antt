@@ -37,7 +37,8 @@ passed (r ∷ rows) t e =
     (first .0, passed rows (and-yes (ltb 0 (r .number)) (numbered rows) t .1) (first .1))
 
 -- two tables, one behind the other: where the first refuses nothing it is the second's verdict, else the first's
-pub behind-passed : (rows later : List Row) → T (numbered rows) → verdict rows .number ≡ 0 → verdict (rows ++ later) ≡ verdict later
+pub behind-passed : (rows later : List Row) → T (numbered rows) → verdict rows .number ≡ 0
+    → verdict (rows ++ later) ≡ verdict later
 behind-passed [] later t e = refl
 behind-passed (r ∷ rows) later t e =
     let (some, others) = and-yes (ltb 0 (r .number)) (numbered rows) t in

@@ -37,7 +37,8 @@ told is =
 abbrev ran : ℕ → ℕ → Bool → Ran
 ran taken written ended = record { taken = taken; written = written; ended = ended }
 
-all-told : {o : Outcome State} {taken written : ℕ} {ended : Bool} → Told o tt taken written ended → ran taken written ended ≡ ranOf o
+all-told : {o : Outcome State} {taken written : ℕ} {ended : Bool} → Told o tt taken written ended
+    → ran taken written ended ≡ ranOf o
 all-told t = rw (t .taken-is, t .written-is, t .ended-is)
 
 room : (c : tie.At-loop Inv-loop μ-loop) → c .loop .ran .written ≤ length (c .loop .output)

@@ -52,7 +52,8 @@ module _ (l : List ℕ) (at : ℕ) where
   unfolding front
   is-imaged is = rw (letter, is)
 
-  not-ours : (getD l at 0 ≡ 78 → ⊥) → (getD l at 0 ≡ 66 → ⊥) → front (drop at l) ≡ asShiftline (shiftline.front (drop at l))
+  not-ours : (getD l at 0 ≡ 78 → ⊥) → (getD l at 0 ≡ 66 → ⊥)
+      → front (drop at l) ≡ asShiftline (shiftline.front (drop at l))
   unfolding front
   not-ours isnt-n isnt-b = rw (letter, ne-eqb (getD l at 0) 78 isnt-n, ne-eqb (getD l at 0) 66 isnt-b)
 

@@ -3,13 +3,12 @@ use mathlib.Core.Path.{_≡_, sym, _∙_}
 use mathlib.Core.List.{List}
 use Prim.Native.Nat.{ℕ, _+_, _≤_}
 use native.Mathlib.Omega.{arith}
-use lib.ListN.{length, getD, take, drop, length-drop}
+use lib.ListN.{length, drop, length-drop}
 use lib.Seq.{getD-drop, length-take-le}
 use denote.Ref.{now}
 use borrow.Author.Needs.{needs}
 use borrow.Author.Tests.{lt-ltb, le-ltb}
 use Rattle.numbers.specs.Bytes.{number}
-use Rattle.bench.specs.Table.{imagedSize}
 use Rattle.bench.proofs.find.find_imaged.Statement.{statement}
 use Rattle.bench.proofs.find.find_imaged.Tie as tie
 

@@ -1,6 +1,6 @@
 -- `imaged` hands the image that stands behind the first four bytes of the record to the block load.
 use Prim.Native.Nat.{_+_, _-_}
-use mathlib.Core.Path.{_≡_, _∙_}
+use mathlib.Core.Path.{_≡_}
 use native.Mathlib.Omega.{arith}
 use lib.Seq.{drop-drop}
 use borrow.Author.Needs.{needs}

@@ -14,7 +14,7 @@ use Rattle.numbers.proofs.Bytes.{length-numbers, take-numbers}
 use Rattle.numbers.proofs.Tests.{or-cases}
 use Rattle.verdicts.specs.Table.{verdict}
 use Rattle.images.specs.Image.{fifteen}
-use Rattle.images.specs.Reads.{readRows, part}
+use Rattle.images.specs.Reads.{readRows}
 use Rattle.drive.specs.Blocks.{blockNumbers}
 use Rattle.drive.proofs.Loads.{same-load-or}
 use Rattle.drive.proofs.BlockLoads.{found-loads, not-found, counts}
@@ -83,7 +83,8 @@ returns-2 c =
     let test = c .before in
     let start = test .before .before .before .before in
     let said = test .before .before .verdict .ensures in
-    rw (c .settle .ensures, said) (not-found (start .args .self) (now (start .args .image)) (start .args .block) (rw said at (test .if1 .left)))
+    rw (c .settle .ensures, said)
+    (not-found (start .args .self) (now (start .args .image)) (start .args .block) (rw said at (test .if1 .left)))
 
 pub load-block-spec : {M : Type 1} → statement M
 load-block-spec =

@@ -1,5 +1,4 @@
 -- `choose` refuses a count above 4095; below, the product of 4095 and 15 fits, and its quotient by 4096 is below 15.
-use native.Mathlib.Omega.{arith}
 use borrow.Author.Needs.{needs}
 use borrow.Author.Tests.{lt-ltb, le-ltb}
 use Rattle.images.specs.Choice.{choice}

@@ -2,7 +2,6 @@
 use mathlib.Core.Bool.{true}
 use denote.Ref.{now}
 use borrow.Author.Needs.{needs}
-use Rattle.images.specs.Image.{fifteen}
 use Rattle.images.specs.Table.{wellFormed}
 use Rattle.images.proofs.Search.{found-inside}
 use Rattle.images.proofs.reader.body.Statement.{statement}

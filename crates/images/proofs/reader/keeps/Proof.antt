@@ -9,13 +9,23 @@ returns : tie.Need-returns
 unfolding keeps
 returns c =
     let read = c .before in
-    rw (← read .before .before .byte-at .ensures, eq-eqb _ 0 (c .if1 .taken), read .wide-at2 .ensures .0, read .before .wide-at .ensures .0)
+    rw (
+      ← read .before .before .byte-at .ensures,
+      eq-eqb _ 0 (c .if1 .taken),
+      read .wide-at2 .ensures .0,
+      read .before .wide-at .ensures .0,
+    )
 
 returns-2 : tie.Need-returns-2
 unfolding keeps
 returns-2 c =
     let read = c .before in
-    rw (← read .before .before .byte-at .ensures, ne-eqb _ 0 (c .if1 .left), read .wide-at2 .ensures .0, read .before .wide-at .ensures .0)
+    rw (
+      ← read .before .before .byte-at .ensures,
+      ne-eqb _ 0 (c .if1 .left),
+      read .wide-at2 .ensures .0,
+      read .before .wide-at .ensures .0,
+    )
 
 pub keeps-spec : {M : Type 1} → statement M
 keeps-spec = tie.close (tie.spec (search needs) (search needs) (search needs) (search needs) (search needs) returns returns-2)

@@ -1,12 +1,12 @@
 -- `numbers_of` has filled its array up to `i` with the numbers of the definition.
-use Prim.Native.Nat.{ℕ, _+_, _*_, _-_, _≤_}
-use mathlib.Core.Path.{_≡_, refl, ap, _∙_}
+use Prim.Native.Nat.{_-_, _≤_}
+use mathlib.Core.Path.{_≡_, refl, _∙_}
 use native.Mathlib.Nat.{zero-add}
 use native.Mathlib.Omega.{arith}
 use lib.ListN.{length, replicate, length-set}
 use denote.Ref.{now}
 use borrow.Author.Needs.{needs}
-use Rattle.numbers.specs.Bytes.{number, numbers}
+use Rattle.numbers.specs.Bytes.{numbers}
 use Rattle.numbers.proofs.Bytes.{length-numbers, number-at}
 use Rattle.numbers.proofs.Fill.{filled, filled-more, filled-all}
 use Rattle.images.proofs.reader.numbers_of.Statement.{statement}

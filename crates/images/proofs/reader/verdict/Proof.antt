@@ -14,7 +14,8 @@ use Rattle.images.proofs.reader.verdict.Tie as tie
 
 -- of three rows at place 0
 at-place-0 : (a b c : Bool)
-    → record { number = verdict (row 7 0 a ∷ row 8 0 b ∷ row 9 0 c ∷ []) .number; place = 0 } ≡ verdict (row 7 0 a ∷ row 8 0 b ∷ row 9 0 c ∷ [])
+    → record { number = verdict (row 7 0 a ∷ row 8 0 b ∷ row 9 0 c ∷ []) .number; place = 0 }
+    ≡ verdict (row 7 0 a ∷ row 8 0 b ∷ row 9 0 c ∷ [])
 at-place-0 true b c = refl
 at-place-0 false true c = refl
 at-place-0 false false true = refl

@@ -1,7 +1,4 @@
 -- `entry` writes kind 1, offset and length, high bytes first, of a filled block, and zeros of an empty one.
-use Prim.Native.Nat.{ℕ}
-use mathlib.Core.Path.{_≡_}
-use native.Mathlib.Omega.{arith}
 use borrow.Author.Needs.{needs}
 use Rattle.images.proofs.writer.entry.Statement.{statement}
 use Rattle.images.proofs.writer.entry.Tie as tie

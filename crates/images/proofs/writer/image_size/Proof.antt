@@ -1,10 +1,10 @@
 -- `image_size` knows at the head of its loop where the bodies of the first k blocks end.
-use Prim.Native.Nat.{ℕ, _+_, _*_, _-_, _≤_}
-use mathlib.Core.Path.{_≡_, refl, sym, _∙_}
+use Prim.Native.Nat.{_+_, _*_, _-_, _≤_}
+use mathlib.Core.Path.{_≡_, refl}
 use native.Mathlib.Numerals.{add-one}
 use native.Mathlib.Omega.{arith}
 use borrow.Author.Needs.{needs}
-use Rattle.images.specs.Image.{fifteen, bodies, startOf, pieces}
+use Rattle.images.specs.Image.{fifteen, startOf, pieces}
 use Rattle.images.specs.Writes.{storedIn, imageIn}
 use Rattle.images.proofs.Lengths.{length-image, start-next}
 use Rattle.images.proofs.writer.image_size.Statement.{statement}

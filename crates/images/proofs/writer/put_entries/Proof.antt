@@ -1,12 +1,12 @@
 -- `put_entries` has put the entries of the first k blocks at the head of its loop, and knows where the next body begins.
-use Prim.Native.Nat.{ℕ, _+_, _*_, _-_, _≤_}
+use Prim.Native.Nat.{_+_, _*_, _-_, _≤_}
 use mathlib.Core.Path.{_≡_, refl}
 use native.Mathlib.Numerals.{add-one}
 use native.Mathlib.Omega.{arith}
-use lib.ListN.{length, getD}
+use lib.ListN.{length}
 use borrow.Author.Needs.{needs}
 use Rattle.text.proofs.Chains.{Puts, nothing-put, and-then}
-use Rattle.images.specs.Image.{fifteen, bodies, startOf, entryOf, entries, pieces}
+use Rattle.images.specs.Image.{fifteen, startOf, entryOf, entries, pieces}
 use Rattle.images.specs.Writes.{storedIn}
 use Rattle.images.proofs.Lengths.{start-next}
 use Rattle.images.proofs.writer.put_entries.Statement.{statement}

@@ -1,20 +1,21 @@
 -- `put_numbers` has put the bytes of the first i numbers at the head of its loop.
-use Prim.Native.Nat.{ℕ, _+_, _-_, _≤_}
-use mathlib.Core.Path.{_≡_, refl, sym, ap, _∙_}
-use mathlib.Core.List.{List, [], _∷_, _++_, append-nil}
+use Prim.Native.Nat.{_+_, _-_, _≤_}
+use mathlib.Core.Path.{_≡_, refl}
+use mathlib.Core.List.{_++_}
 use native.Mathlib.Numerals.{add-one}
 use native.Mathlib.Omega.{arith}
 use lib.ListN.{length, getD, take}
 use borrow.Author.Needs.{needs}
 use Rattle.numbers.specs.Bytes.{word, words}
 use Rattle.numbers.proofs.Bytes.{words-next}
-use Rattle.text.proofs.Chains.{Puts, nothing-put, and-then, length-written}
+use Rattle.text.proofs.Chains.{Puts, nothing-put, and-then}
 use Rattle.images.proofs.writer.put_numbers.Statement.{statement}
 use Rattle.images.proofs.writer.put_numbers.Tie as tie
 
 abbrev Inv-loop : tie.InvT-loop
 Inv-loop lent₀ at count numbers next₀ i₀ lent next i =
-    (i ≤ count) × (count ≤ 25) × (length numbers ≡ 25) × (length lent ≡ length lent₀) × Puts at (words (take i numbers)) lent₀ next lent
+    (i ≤ count) × (count ≤ 25) × (length numbers ≡ 25) × (length lent ≡ length lent₀)
+    × Puts at (words (take i numbers)) lent₀ next lent
 
 abbrev μ-loop : tie.MeasureT-loop
 μ-loop lent₀ at count numbers next₀ i₀ lent next i = count - i

@@ -1,5 +1,4 @@
 -- `size_of` counts two bytes for each number, and no more numbers than the block has.
-use Prim.Native.Nat.{_≤_, _<_}
 use mathlib.Core.Path.{_≡_}
 use native.Mathlib.Omega.{arith}
 use lib.ListN.{length}

@@ -11,7 +11,8 @@ use Rattle.images.proofs.writer.verdict.Statement.{statement}
 use Rattle.images.proofs.writer.verdict.Tie as tie
 
 abbrev Inv-loop : tie.InvT-loop
-Inv-loop short blocks found₀ place₀ found place = (place ≤ 15) × (length blocks ≡ 15) × (found ≡ from blocks (row 5 0 short ∷ []) place)
+Inv-loop short blocks found₀ place₀ found place =
+    (place ≤ 15) × (length blocks ≡ 15) × (found ≡ from blocks (row 5 0 short ∷ []) place)
 
 abbrev μ-loop : tie.MeasureT-loop
 μ-loop short blocks found₀ place₀ found place = place

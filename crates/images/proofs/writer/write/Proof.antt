@@ -20,7 +20,8 @@ use Rattle.images.proofs.writer.write.Statement.{statement}
 use Rattle.images.proofs.writer.write.Tie as tie
 
 told : (c : tie.After-verdict)
-    → c .verdict .result ≡ verdict (writeRows (c .before .before .before .args .blocks) (length (now (c .before .before .before .args .lent))))
+    → c .verdict .result
+    ≡ verdict (writeRows (c .before .before .before .args .blocks) (length (now (c .before .before .before .args .lent))))
 unfolding writeRows
 told c = rw (c .verdict .ensures, c .before .image-size .ensures)
 
@@ -30,7 +31,8 @@ unfolding writeRows
 fits blocks lent none =
     by (ltb lent (length (imageIn blocks))) refl (all-passed 0 blocks (row 5 0 (ltb lent (length (imageIn blocks))) ∷ []) none .1)
   where
-    by : (t : Bool) → ltb lent (length (imageIn blocks)) ≡ t → verdict (row 5 0 t ∷ []) .number ≡ 0 → length (imageIn blocks) ≤ lent
+    by : (t : Bool) → ltb lent (length (imageIn blocks)) ≡ t → verdict (row 5 0 t ∷ []) .number ≡ 0
+        → length (imageIn blocks) ≤ lent
     by true e z = absurd (omega arith)
     by false e z = ltb-false lent (length (imageIn blocks)) e
 
@@ -38,7 +40,8 @@ put-bodies-requires : tie.Need-put-bodies-requires
 unfolding behind
 put-bodies-requires c κs =
     let put = c .before .before .before .put-entries .ensures in
-    let same : length (c .before .before .before .put-entries .last .0) ≡ length (now (c .before .before .before .before .before .before .before .before .before .args .lent)) =
+    let same : length (c .before .before .before .put-entries .last .0)
+    ≡ length (now (c .before .before .before .before .before .before .before .before .before .args .lent)) =
     ap length (put .out) ∙ simp length-written in
     omega (arith, put .place)
 
