@@ -15,4 +15,5 @@ pub mod Computes
 pub mod Bench
 pub mod NamedRuns
 pub mod WrongDrives
+pub mod WrongBlockLoads
 pub mod WrongFlags

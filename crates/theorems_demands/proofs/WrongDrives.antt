@@ -3,7 +3,7 @@
 use mathlib.Core.Path.{_≡_, refl}
 use mathlib.Core.Bool.{Bool, true, false, not, _&&_, cond}
 use mathlib.Core.List.{List, [], _∷_, _++_, reverse}
-use Prim.Native.Nat.{ℕ, suc}
+use Prim.Native.Nat.{ℕ}
 use lib.Dec.{eqb}
 use lib.ListN.{drop}
 use Rattle.theorems_history.specs.Log.{log}
@@ -15,9 +15,7 @@ use Rattle.states.specs.declared.State.the-variants.{Idle, Stop, BtsCharge, Mot
 use Rattle.fields.specs.declared.Tick.{Tick}
 use Rattle.drive.specs.Answer.{gateOf, reply as replied}
 use Rattle.settings.specs.Settings.{meant}
-use Rattle.images.specs.Image.{fifteen, Stored, empty, filled, imageOf}
-use Rattle.drive.specs.Calls.{becomes, loaded as freshly}
-use Rattle.drive.specs.Blocks.{blockNumbers}
+use Rattle.drive.specs.Calls.{loaded as freshly}
 use Rattle.drive.specs.Ticks.{arrive, retriedTrip}
 use Rattle.drive.specs.AnyCall.{Call, loads, cycles, ticks, blockLoads, reply}
 use Rattle.drive.specs.declared.Drive.{Drive}
@@ -27,11 +25,11 @@ use Rattle.theorems_history.proofs.Judges.{judges}
 use Rattle.theorems_reached.specs.Machine.{machineOf}
 use Rattle.theorems_demands.proofs.Computes.{computes}
 use Rattle.theorems_demands.specs.NamedCalls.{settingsWith, loaded, loadedInMode1, shows, tickWith, low, high, over, clear}
-use Rattle.theorems_demands.specs.NamedCalls.{ready, started, times}
+use Rattle.theorems_demands.specs.NamedCalls.{ready, started}
 use Rattle.onlooker.specs.Words.{words}
 
 -- a drive is what it replies in each state
-abbrev Replies : Type 0
+abbrev pub Replies : Type 0
 Replies = Drive → Call → Reply
 
 -- ---- blind drives: a field of a tick is read as a harmless number, in every state, in MOTORRUN alone, or elsewhere alone
@@ -189,30 +187,6 @@ leavesByALoad d (loads numbers) = cond (is 5 (d .state)) (replied 0 0 (freshly (
 leavesByALoad d (cycles fields) = reply d (cycles fields)
 leavesByALoad d (ticks fields) = reply d (ticks fields)
 
--- the same of a block load
-abbrev leavesByABlockLoad : Replies
-leavesByABlockLoad d (loads numbers) = reply d (loads numbers)
-leavesByABlockLoad d (cycles fields) = reply d (cycles fields)
-leavesByABlockLoad d (ticks fields) = reply d (ticks fields)
-leavesByABlockLoad d (blockLoads image block) =
-    cond (is 5 (d .state)) (replied 0 0 (freshly (meant (blockNumbers image block)))) (reply d (blockLoads image block))
-
--- a block load that leaves the arming
-abbrev staysArmed : Replies
-staysArmed d (loads numbers) = reply d (loads numbers)
-staysArmed d (cycles fields) = reply d (cycles fields)
-staysArmed d (ticks fields) = reply d (ticks fields)
-staysArmed d (blockLoads image block) =
-    let next : Drive = reply d (blockLoads image block) .drive in
-    replied 0 0 (becomes next (next .state) (next .hall) (next .flags) 0 0 (next .offsets) (next .run) (d .armed) 0)
-
--- and one that loads the block behind the one that was asked for
-abbrev loadsTheNextBlock : Replies
-loadsTheNextBlock d (loads numbers) = reply d (loads numbers)
-loadsTheNextBlock d (cycles fields) = reply d (cycles fields)
-loadsTheNextBlock d (ticks fields) = reply d (ticks fields)
-loadsTheNextBlock d (blockLoads image block) = reply d (blockLoads image (suc block))
-
 -- a retry at FAULT's first tick
 abbrev retriesAtOnce : Replies
 retriesAtOnce d (blockLoads image block) = reply d (blockLoads image block)
@@ -223,7 +197,7 @@ retriesAtOnce d (ticks fields) = cond (is 5 (d .state)) (replied 0 0 (retriedTri
 -- ---- the runs
 
 -- the run up to MOTORRUN, in mode 0
-abbrev running : List Call
+abbrev pub running : List Call
 running = ready loaded ++ started 5
 
 -- .. in mode 1, and with no bit of FaultEnable but that of flag 2
@@ -232,21 +206,6 @@ runningInMode1 = ready loadedInMode1 ++ started 5
 
 abbrev runningWithBit2 : List Call
 runningWithBit2 = ready (loads (0 ∷ 4 ∷ drop 2 (settingsWith 0 0))) ++ started 5
-
--- an image of two blocks: in block 3 the settings of mode 1, in block 4 those of mode 0
-abbrev inBlocks : ℕ → Stored
-inBlocks k = cond (eqb k 3) (filled (settingsWith 1 0)) (cond (eqb k 4) (filled (settingsWith 0 0)) empty)
-
-abbrev loadedBlock : ℕ → Call
-loadedBlock block = blockLoads (imageOf fifteen inBlocks) block
-
--- load, measure the offsets with the command high, and a tick more
-abbrev neverLow : List Call
-neverLow = high ∷ times 64 (shows 1) ++ (high ∷ high ∷ [])
-
--- in mode 0 a start; in mode 1, where the control level counts, a low
-abbrev commandAlone : Call
-commandAlone = tickWith 0 0 1 0 2623 2623 0 700
 
 -- ticks with one thing wrong, the command high: gate kill, VdcRaw, VdcFilt too high, too low; the temperature; a low
 abbrev hot : Call
@@ -262,7 +221,7 @@ abbrev under : Call
 under = tickWith 0 0 1 400 2623 999 0 700
 
 -- a wrong drive, and the calls at whose last it is caught
-abbrev Row : Type 0
+abbrev pub Row : Type 0
 Row = Replies × List Call
 
 abbrev rows : List Row
@@ -292,11 +251,6 @@ rows =
     -- "FAULT left in a cycle or a load, the cause still there"
     (leavesInACycle, running ++ (over ∷ shows 1 ∷ [])) ∷
     (leavesByALoad, running ++ (over ∷ loaded ∷ [])) ∷
-    (leavesByABlockLoad, running ++ (over ∷ loadedBlock 4 ∷ [])) ∷
-    -- "A command already high after load .. taken as a start": of a block load
-    (staysArmed, ready loaded ++ (loadedBlock 4 ∷ neverLow)) ∷
-    -- the settings of another block
-    (loadsTheNextBlock, ready (loadedBlock 3) ++ (commandAlone ∷ [])) ∷
     -- "a 'retry' at FAULT's first tick, or in mode 0"
     (retriesAtOnce, runningInMode1 ++ (over ∷ high ∷ [])) ∷
     (retriesAtOnce, running ++ (over ∷ high ∷ [])) ∷
@@ -305,7 +259,7 @@ rows =
     (blindInMotorRun hidesControl, runningInMode1 ++ (tickWith 0 0 1 300 2623 2623 0 700 ∷ [])) ∷
     []
 
-abbrev noted : Replies → List Call → List Seen
+abbrev pub noted : Replies → List Call → List Seen
 noted replies calls = notes words (log (machineOf replies) (reverse calls))
 
 -- the rule holds up to the newest call, and not with it
@@ -313,7 +267,7 @@ abbrev breaksNow : List Seen → Bool
 breaksNow [] = false
 breaksNow (call ∷ past) = holds past && not (holds (call ∷ past))
 
-abbrev allCaught : List Row → Bool
+abbrev pub allCaught : List Row → Bool
 allCaught [] = true
 allCaught (row ∷ rest) = breaksNow (noted (row .0) (row .1)) && allCaught rest
 
