@@ -14,8 +14,7 @@ use Rattle.numbers.specs.Bytes.{byte, number, numbers}
 use Rattle.drive.specs.AnyCall.{Call}
 use Rattle.records.specs.Front as shiftline
 use Rattle.records.proofs.MoreBytes as shiftline-grown
-use Rattle.records.proofs.MoreBytes.{byte-kept, numbers-kept}
-use Rattle.numbers.proofs.Bytes.{length-numbers}
+use Rattle.numbers.proofs.Bytes.{length-numbers, byte-kept, numbers-kept}
 use Rattle.streams.specs.Run.{Front, end, unknown, short, whole}
 use Rattle.streams.proofs.Grown as streams
 use Rattle.streams.proofs.Grown.{no-byte, no-record, a-part, a-record}

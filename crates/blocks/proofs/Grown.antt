@@ -18,7 +18,8 @@ use Rattle.streams.proofs.Grown.{no-byte, no-record, a-part, a-record}
 use Rattle.blocks.specs.Table.{Record, reads, chooses, writes, mostBytes, headSize, choosesSize, sizeOf}
 use Rattle.blocks.specs.Table.{placeOf, badKind, blocksOf, readsFront, choosesFront, writesFront, front}
 use Rattle.blocks.specs.Blockline.{mostHeld}
-use Rattle.blocks.proofs.Places.{at-most, sizes-are, byte-kept, number-kept, place-kept, still-bad, kinds-kept, blocks-kept}
+use Rattle.numbers.proofs.Bytes.{byte-kept, number-kept}
+use Rattle.blocks.proofs.Places.{at-most, sizes-are, place-kept, still-bad, kinds-kept, blocks-kept}
 
 -- the record is read off the bytes
 abbrev pub ReadOff : List ℕ → Record → Type 0

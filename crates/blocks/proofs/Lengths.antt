@@ -1,21 +1,20 @@
 -- How long a line can be, whatever it shows.
 use mathlib.Core.Path.{_≡_, refl}
 use mathlib.Core.Bool.{Bool, true, false, cond}
-use mathlib.Core.List.{List, [], _∷_, _++_}
+use mathlib.Core.List.{List, _∷_, _++_}
 use Prim.Native.Nat.{ℕ, _+_, _*_, _/_, _≤_}
 use native.Mathlib.Omega.{arith}
-use lib.Dec.{ltb}
 use lib.ListN.{length, drop, replicate, length-append, length-take, length-drop, length-replicate}
-use borrow.Author.Tests.{eqb-true, ltb-false}
+use borrow.Author.Tests.{eqb-true}
 use Rattle.numbers.proofs.Bytes.{length-numbers}
 use Rattle.text.proofs.Decimals.{at-most-twenty}
-use Rattle.verdicts.specs.Table.{row, verdict}
+use Rattle.verdicts.specs.Table.{verdict}
 use Rattle.images.specs.Image.{fifteen}
 use Rattle.images.specs.Table.{numbersIn}
 use Rattle.images.specs.Reads.{readRows, part, found}
 use Rattle.images.specs.Writes.{imageIn, writeRows, isWritten, written, lentAfter}
 use Rattle.images.specs.declared.Block.{Block}
-use Rattle.images.proofs.Rows.{all-passed}
+use Rattle.images.proofs.Rows.{image-fits}
 use Rattle.blocks.specs.Line.{lineOf, readsLine, choosesLine, writesLine, refusalLine, lineRoom}
 use Rattle.blocks.proofs.Fields.{length-fields}
 
@@ -42,16 +41,6 @@ unfolding choosesLine
 chooses-length count = length-line _ _
 
 -- the writer leaves as many bytes as it was lent: an image that is written fits
-image-fits : (blocks : List Block) (lent : ℕ) → verdict (writeRows blocks lent) .number ≡ 0 → length (imageIn blocks) ≤ lent
-unfolding writeRows
-image-fits blocks lent none =
-    by (ltb lent (length (imageIn blocks))) refl (all-passed 0 blocks (row 5 0 (ltb lent (length (imageIn blocks))) ∷ []) none .1)
-  where
-    by : (t : Bool) → ltb lent (length (imageIn blocks)) ≡ t → verdict (row 5 0 t ∷ []) .number ≡ 0
-        → length (imageIn blocks) ≤ lent
-    by true e z = absurd (omega arith)
-    by false e z = ltb-false lent (length (imageIn blocks)) e
-
 pub length-lent : (blocks : List Block) (lent : List ℕ) → length (lentAfter blocks lent) ≡ length lent
 unfolding lentAfter
 length-lent blocks lent = by (isWritten blocks (length lent)) refl

@@ -1,13 +1,12 @@
 -- The blocks of W: where they begin, how many bytes they have, and that bytes which come later change nothing of those that are there.
-use mathlib.Core.Path.{_≡_, refl, sym, ap, _∙_}
+use mathlib.Core.Path.{_≡_, refl}
 use mathlib.Core.List.{List, [], _∷_, _++_}
 use Prim.Native.Nat.{ℕ, zero, suc, _+_, _*_, _≤_, _<_}
 use native.Mathlib.Omega.{arith}
 use lib.Dec.{T, ltb, ltb→lt, nltb→le}
-use lib.ListN.{length, List·getD-append, List·getD-eq-default}
-use lib.Seq.{take-append-seam}
-use Rattle.numbers.specs.Bytes.{byte, number, numbers}
-use Rattle.numbers.proofs.Bytes.{numbers-take}
+use lib.ListN.{length, List·getD-eq-default}
+use Rattle.numbers.specs.Bytes.{byte}
+use Rattle.numbers.proofs.Bytes.{byte-kept, numbers-kept}
 use Rattle.numbers.proofs.Tests.{decide, or-cases, or-left, or-right}
 use Rattle.images.specs.declared.Block.{Block}
 use Rattle.blocks.specs.Table.{headSize, following, blockSize, sizesOf, placeOf, badKind, blockAt, blocksOf}
@@ -36,20 +35,10 @@ sizes-are bytes (suc k) =
 
 -- the bytes `b` come behind `a`
 module _ (a b : List ℕ) where
-  pub byte-kept : (i : ℕ) → i < length a → byte i (a ++ b) ≡ byte i a
-  byte-kept i inside = List·getD-append a b 0 i inside
-
-  pub number-kept : (at : ℕ) → at + 1 < length a → number at (a ++ b) ≡ number at a
-  number-kept at inside = rw (byte-kept at (omega arith), byte-kept (at + 1) inside)
-
-  numbers-kept : (count at : ℕ) → at + 2 * count ≤ length a → numbers count at (a ++ b) ≡ numbers count at a
-  numbers-kept count at inside =
-      sym (numbers-take count at (length a) (a ++ b) inside) ∙ ap (numbers count at) (take-append-seam a b)
-
   pub place-kept : (k : ℕ) → placeOf a k ≤ length a → placeOf (a ++ b) k ≡ placeOf a k
   unfolding placeOf
   place-kept zero inside = refl
-  place-kept (suc k) inside = rw (place-kept k (omega arith), byte-kept (placeOf a k + 1) (omega arith))
+  place-kept (suc k) inside = rw (place-kept k (omega arith), byte-kept a b (placeOf a k + 1) (omega arith))
 
   -- a bad kind stays bad: its byte is there, and so are those of the blocks before it
   here-bad : (k : ℕ) → T (ltb 1 (byte (placeOf a k) a)) → T (ltb 1 (byte (placeOf (a ++ b) k) (a ++ b)))
@@ -63,7 +52,7 @@ module _ (a b : List ℕ) where
         List·getD-eq-default a 0 (nltb→le (placeOf a k) (length a) no),
       )))
       in
-      rw (place-kept k (omega arith), byte-kept (placeOf a k) inside) bad
+      rw (place-kept k (omega arith), byte-kept a b (placeOf a k) inside) bad
 
   pub still-bad : (k : ℕ) → T (badKind a k) → T (badKind (a ++ b) k)
   unfolding badKind
@@ -78,15 +67,15 @@ module _ (a b : List ℕ) where
   unfolding badKind placeOf
   kinds-kept zero inside = refl
   kinds-kept (suc k) inside =
-      rw (kinds-kept k (omega arith), place-kept k (omega arith), byte-kept (placeOf a k) (omega arith))
+      rw (kinds-kept k (omega arith), place-kept k (omega arith), byte-kept a b (placeOf a k) (omega arith))
 
   block-kept : (place : ℕ) → place + blockSize (byte (place + 1) a) ≤ length a → blockAt (a ++ b) place ≡ blockAt a place
   unfolding blockAt
   block-kept place inside =
       rw (
-        byte-kept place (omega arith),
-        byte-kept (place + 1) (omega arith),
-        numbers-kept (following (byte (place + 1) a)) (place + 2) (omega arith),
+        byte-kept a b place (omega arith),
+        byte-kept a b (place + 1) (omega arith),
+        numbers-kept a b (following (byte (place + 1) a)) (place + 2) (omega arith),
       )
 
   pub blocks-kept : (k : ℕ) → placeOf a k ≤ length a → blocksOf (a ++ b) k ≡ blocksOf a k

@@ -5,11 +5,13 @@ use mathlib.Core.Path.{_≡_, refl}
 use native.Mathlib.Numerals.{add-one}
 use native.Mathlib.Omega.{arith}
 use mathlib.Core.List.{List, [], _∷_}
+use lib.Dec.{ltb}
 use lib.ListN.{length, getD, drop, drop-of-length-le}
 use lib.Seq.{drop-cons}
+use borrow.Author.Tests.{ltb-false}
 use Rattle.verdicts.specs.Table.{Row, row, first, verdict}
 use Rattle.verdicts.specs.declared.Verdict.{Verdict}
-use Rattle.images.specs.Writes.{noBlock, otherLength, lengthRows}
+use Rattle.images.specs.Writes.{noBlock, otherLength, lengthRows, imageIn, writeRows}
 use Rattle.images.specs.declared.Block.{Block}
 
 -- what the rows of the blocks from the k-th on say, and the later ones
@@ -75,3 +77,14 @@ none-refused place [] later each none = none
 none-refused place (b ∷ blocks) later each none =
     let first : otherLength b ≡ false = each 0 (omega arith) in
     rw first (none-refused (place + 1) blocks later (λ k inside. each (suc k) (omega arith)) none)
+
+-- an image that is written fits: the row of the lent bytes does not hold
+pub image-fits : (blocks : List Block) (lent : ℕ) → verdict (writeRows blocks lent) .number ≡ 0 → length (imageIn blocks) ≤ lent
+unfolding writeRows
+image-fits blocks lent none =
+    by (ltb lent (length (imageIn blocks))) refl (all-passed 0 blocks (row 5 0 (ltb lent (length (imageIn blocks))) ∷ []) none .1)
+  where
+    by : (t : Bool) → ltb lent (length (imageIn blocks)) ≡ t → verdict (row 5 0 t ∷ []) .number ≡ 0
+        → length (imageIn blocks) ≤ lent
+    by true e z = absurd (omega arith)
+    by false e z = ltb-false lent (length (imageIn blocks)) e

@@ -1,5 +1,5 @@
--- Document 02, M-102: the blocks that given bytes have, or that they are malformed. That this is the inverse of `imageOf` (Image.antt), so
--- that neither has to be believed alone, is proved in proofs/Inverse.antt.
+-- Document 02, M-102: the blocks that given bytes have, or that they are malformed. That this is the inverse of `imageOf` (Image.antt) is
+-- proved in proofs/Inverse.antt; that both are the paper's, of an image written out in bytes, in proofs/Examples.antt.
 use Prim.Native.Nat.{ℕ, zero, suc, _+_, _/_}
 use mathlib.Core.Bool.{Bool, true, false, _&&_, _||_, cond}
 use mathlib.Core.List.{List, [], _∷_}

@@ -1,12 +1,12 @@
 -- Numbers in bytes, one after the other: how many they are, where each stands, and that reading and writing are inverse.
-use mathlib.Core.Path.{_≡_, refl, ap, _∙_}
+use mathlib.Core.Path.{_≡_, refl, sym, ap, _∙_}
 use mathlib.Core.List.{List, [], _∷_, _++_}
 use Prim.Native.Nat.{ℕ, zero, suc, _+_, _*_, _/_, _%_, _≤_, _<_}
 use native.Mathlib.Nat.{div-add-mod'}
 use native.Mathlib.Omega.{arith}
 use lib.Dec.{ltb, ltb→lt}
-use lib.ListN.{length, getD, take, drop, length-take, List·getD-eq-default}
-use lib.Seq.{take-suc, getD-take, getD-drop}
+use lib.ListN.{length, getD, take, drop, length-take, List·getD-append, List·getD-eq-default}
+use lib.Seq.{take-suc, take-append-seam, getD-take, getD-drop}
 use lib.Ieee.Bits.{is-false}
 use borrow.Author.Tests.{ltb-false}
 use Rattle.numbers.proofs.Tests.{decide}
@@ -54,6 +54,18 @@ take-numbers zero more at bytes fewer = refl
 take-numbers (suc count) zero at bytes fewer = absurd (omega arith)
 take-numbers (suc count) (suc more) at bytes fewer =
     ap (λ (l : List ℕ). number at bytes ∷ l) (take-numbers count more (at + 2) bytes (omega arith))
+
+-- bytes that come behind change nothing of those that are there
+module _ (a b : List ℕ) where
+  pub byte-kept : (i : ℕ) → i < length a → byte i (a ++ b) ≡ byte i a
+  byte-kept i inside = List·getD-append a b 0 i inside
+
+  pub number-kept : (at : ℕ) → at + 1 < length a → number at (a ++ b) ≡ number at a
+  number-kept at inside = rw (byte-kept at (omega arith), byte-kept (at + 1) inside)
+
+  pub numbers-kept : (count at : ℕ) → at + 2 * count ≤ length a → numbers count at (a ++ b) ≡ numbers count at a
+  numbers-kept count at inside =
+      sym (numbers-take count at (length a) (a ++ b) inside) ∙ ap (numbers count at) (take-append-seam a b)
 
 pub length-words : (list : List ℕ) → length (words list) ≡ 2 * length list
 unfolding words

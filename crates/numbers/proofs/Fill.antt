@@ -1,11 +1,11 @@
 -- A loop that fills a list from its front: what is stored so far stands before the list as it was, and a turn stores one more.
-use Prim.Native.Nat.{ℕ, _+_, _≤_, _<_}
+use Prim.Native.Nat.{ℕ, zero, suc, _+_, _≤_, _<_}
 use native.Mathlib.Nat.{zero-add}
 use native.Mathlib.Numerals.{add-one}
 use native.Mathlib.Omega.{arith}
-use mathlib.Core.Path.{_≡_, sym, ap, _∙_}
-use mathlib.Core.List.{List, _++_, append-nil}
-use lib.ListN.{length, getD, take, drop, set, drop-of-length-le, length-take, take-append-drop, List·getD-append}
+use mathlib.Core.Path.{_≡_, refl, sym, ap, _∙_}
+use mathlib.Core.List.{List, _∷_, _++_, append-nil}
+use lib.ListN.{length, getD, take, drop, set, replicate, drop-of-length-le, length-take, take-append-drop, List·getD-append}
 use lib.Seq.{paste-suc, take-all}
 
 -- the first i elements are those of the new list
@@ -24,6 +24,12 @@ filled-more old new i room some is =
 
 pub filled-all : (old new : List ℕ) (i : ℕ) → length old ≤ i → length new ≤ i → filled old new i ≡ new
 filled-all old new i whole all = rw (take-all i new all, drop-of-length-le old whole, append-nil)
+
+-- the first of so many equal ones; said of any number of them, since thousands are too many to write out
+pub take-replicate : (k n a : ℕ) → k ≤ n → take k (replicate n a) ≡ replicate k a
+take-replicate zero n a fits = refl
+take-replicate (suc k) zero a fits = absurd (omega arith)
+take-replicate (suc k) (suc n) a fits = ap (λ (l : List ℕ). a ∷ l) (take-replicate k n a (omega arith))
 
 -- the first n elements are those of the list
 pub first-at : (n : ℕ) (list : List ℕ) (i : ℕ) → i < n → i < length list → getD (take n list) i 0 ≡ getD list i 0

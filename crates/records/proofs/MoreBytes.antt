@@ -3,14 +3,15 @@
 use mathlib.Core.Path.{_≡_, refl, ap}
 use mathlib.Core.Bool.{Bool, true, false, cond}
 use mathlib.Core.List.{List, _++_}
-use Prim.Native.Nat.{ℕ, zero, suc, _+_, _*_, _≤_, _<_}
+use Prim.Native.Nat.{ℕ, _+_, _≤_, _<_}
 use Prim.Native.Char.{code}
 use native.Mathlib.Omega.{arith}
 use lib.Dec.{T, eqb, ltb, ltb→lt}
-use lib.ListN.{length, length-append, List·getD-append}
+use lib.ListN.{length, length-append}
 use borrow.Author.Tests.{ltb-true, ltb-false, le-ltb, ne-eqb, eqb-true, eqb-false}
 use Rattle.settings.specs.Settings.{settingCount, allSettings}
 use Rattle.drive.specs.AnyCall.{Call, loads, cycles, ticks, blockLoads}
+use Rattle.numbers.proofs.Bytes.{byte-kept, number-kept, numbers-kept}
 use Rattle.numbers.specs.Bytes.{byte, number, numbers}
 use Rattle.records.specs.Decoded.{loadSize, counts, settingsOf, cycleSize, cycleOf, tickSize, tickOf}
 use Rattle.streams.specs.Run.{Front, short, whole}
@@ -37,28 +38,17 @@ both true p q = p
 both false p q = q
 
 module _ (a b : List ℕ) where
-  pub byte-kept : (i : ℕ) → i < length a → byte i (a ++ b) ≡ byte i a
-  byte-kept i inside = List·getD-append a b 0 i inside
-
-  number-kept : (at : ℕ) → at + 1 < length a → number at (a ++ b) ≡ number at a
-  number-kept at inside = rw (byte-kept at (omega arith), byte-kept (at + 1) inside)
-
-  pub numbers-kept : (count at : ℕ) → at + 2 * count ≤ length a → numbers count at (a ++ b) ≡ numbers count at a
-  unfolding numbers
-  numbers-kept zero at inside = refl
-  numbers-kept (suc count) at inside = rw (number-kept at (omega arith), numbers-kept count (at + 2) (omega arith))
-
   settings-kept : (count : ℕ) → loadSize count ≤ length a → settingsOf count (a ++ b) ≡ settingsOf count a
   unfolding settingsOf
-  settings-kept count all = numbers-kept count 1 (omega arith)
+  settings-kept count all = numbers-kept a b count 1 (omega arith)
 
   -- within the first bytes of a record
   module _ (size : ℕ) (all : size ≤ length a) where
     byte-in : (i : ℕ) → T (ltb i size) → byte i (a ++ b) ≡ byte i a
-    byte-in i inside = byte-kept i (omega (arith, ltb→lt i size inside))
+    byte-in i inside = byte-kept a b i (omega (arith, ltb→lt i size inside))
 
     number-in : (at : ℕ) → T (ltb (at + 1) size) → number at (a ++ b) ≡ number at a
-    number-in at inside = number-kept at (omega (arith, ltb→lt (at + 1) size inside))
+    number-in at inside = number-kept a b at (omega (arith, ltb→lt (at + 1) size inside))
 
   cycle-kept : cycleSize ≤ length a → cycleOf (a ++ b) ≡ cycleOf a
   unfolding cycleOf
@@ -106,7 +96,7 @@ module _ (a b : List ℕ) where
   begun-grown true e = rw e (no-byte (eqb-true (length a) 0 e))
   begun-grown false e =
       let some : 0 < length a = omega (arith, eqb-false (length a) 0 e) in
-      rw (e, ne-eqb (length (a ++ b)) 0 (λ none. omega (arith, none, length-append a b)), byte-kept 0 some) letters
+      rw (e, ne-eqb (length (a ++ b)) 0 (λ none. omega (arith, none, length-append a b)), byte-kept a b 0 some) letters
 
   pub grown : Grown a (front a) (front (a ++ b))
   grown = begun-grown (eqb (length a) 0) refl

@@ -3,21 +3,16 @@ use mathlib.Core.Path.{_≡_, refl, sym, ap, _∙_}
 use mathlib.Core.List.{List, _∷_}
 use Prim.Native.Nat.{ℕ, zero, suc, _-_, _≤_, min}
 use Prim.Native.Char.{code}
-use native.Mathlib.Nat.{not-suc-le-zero, le-of-suc-le-suc}
 use native.Mathlib.Omega.{arith}
 use lib.ListN.{length, take, replicate}
 use lib.Seq.{length-take-le}
 use borrow.Author.Needs.{needs}
+use Rattle.numbers.proofs.Fill.{take-replicate}
 use Rattle.text.specs.Decimal.{decimal, column}
 use Rattle.text.proofs.Chains.{first, and-then}
 use Rattle.text.proofs.Decimals.{decimal-digits}
 use Rattle.text.proofs.put_column.Statement.{statement}
 use Rattle.text.proofs.put_column.Tie as tie
-
-take-replicate : (k n a : ℕ) → k ≤ n → take k (replicate n a) ≡ replicate k a
-take-replicate zero n a fits = refl
-take-replicate (suc k) zero a fits = absurd (not-suc-le-zero fits)
-take-replicate (suc k) (suc n) a fits = ap (λ (l : List ℕ). a ∷ l) (take-replicate k n a (le-of-suc-le-suc fits))
 
 -- what `io::decimal` leaves in front is the number in decimal, and what is left of the column is blank
 module _ (c : tie.After-left-behind) where

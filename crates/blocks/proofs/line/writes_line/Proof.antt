@@ -3,25 +3,18 @@ use mathlib.Core.Path.{_≡_, sym, ap, _∙_}
 use mathlib.Core.List.{List, _++_}
 use Prim.Native.Nat.{ℕ, _+_, _-_, _≤_}
 use native.Mathlib.Omega.{arith}
-use lib.ListN.{length, take, drop, replicate, length-append, length-replicate, replicate-append-replicate}
+use lib.ListN.{length, take, drop, replicate, length-append, length-replicate}
 use lib.Seq.{take-at, length-take-le}
 use borrow.Author.Needs.{needs}
 use Rattle.text.specs.Text.{text}
 use Rattle.text.proofs.Chains.{and-then}
 use Rattle.images.specs.Writes.{written, lentAfter}
+use Rattle.numbers.proofs.Fill.{take-replicate}
 use Rattle.blocks.specs.Line.{field, fields, writesLine}
 use Rattle.blocks.proofs.Fields.{three-first, within}
 use Rattle.blocks.proofs.Lengths.{length-lent}
 use Rattle.blocks.proofs.line.writes_line.Statement.{statement}
 use Rattle.blocks.proofs.line.writes_line.Tie as tie
-
--- the first of so many equal bytes; said of any number of them, since 2048 are too many to write out
-few-equal : (count all holds : ℕ) → count ≤ all → take count (replicate all holds) ≡ replicate count holds
-few-equal count all holds fewer =
-    let sum : count + (all - count) ≡ all = omega arith in
-    ap (λ (n : ℕ). take count (replicate n holds)) (sym sum)
-    ∙ ap (take count) (sym (replicate-append-replicate count (all - count) holds))
-    ∙ take-at (replicate count holds) (replicate (all - count) holds) count (length-replicate count holds)
 
 -- what the writer is lent, what it tells, and what it leaves
 module _ (c : tie.After-write) where
@@ -35,7 +28,7 @@ module _ (c : tie.After-write) where
   lent = replicate count (start .args .holds)
 
   is-lent : take count (replicate 2048 (start .args .holds)) ≡ lent
-  is-lent = few-equal count 2048 (start .args .holds) (start .pre)
+  is-lent = take-replicate count 2048 (start .args .holds) (start .pre)
 
   told : c .write .result ≡ written (start .args .blocks) count
   told =
@@ -66,7 +59,7 @@ slice-aggregate-write : tie.Need-slice-aggregate-write
 slice-aggregate-write c =
     let start = c .before .before in
     let holds = start .args .holds in
-    sym (ap length (few-equal (start .args .count) 2048 holds (start .pre)) ∙ length-replicate (start .args .count) holds)
+    sym (ap length (take-replicate (start .args .count) 2048 holds (start .pre)) ∙ length-replicate (start .args .count) holds)
 
 abbrev wrote : tie.After-put-field → tie.After-write
 wrote c = c .before .before .before .before .before .before .before

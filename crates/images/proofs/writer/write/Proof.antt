@@ -1,21 +1,16 @@
 -- `write` puts the entries, and behind them the bodies, where no row refuses it; then all of the image fits.
-use Prim.Native.Nat.{ℕ, _≤_}
-use mathlib.Core.Bool.{Bool, true, false}
-use mathlib.Core.Path.{_≡_, refl, ap, _∙_}
-use mathlib.Core.List.{List, [], _∷_}
+use mathlib.Core.Path.{_≡_, ap, _∙_}
 use native.Mathlib.Omega.{arith}
-use lib.Dec.{ltb}
 use lib.ListN.{length}
 use denote.Ref.{now}
 use borrow.Author.Needs.{needs}
-use borrow.Author.Tests.{ne-eqb, ltb-false}
+use borrow.Author.Tests.{ne-eqb}
 use Rattle.text.specs.Put.{behind}
 use Rattle.text.proofs.Chains.{and-then, length-written, written-front}
-use Rattle.verdicts.specs.Table.{row, verdict}
+use Rattle.verdicts.specs.Table.{verdict}
 use Rattle.images.specs.Image.{bodies, imageOf}
 use Rattle.images.specs.Writes.{storedIn, writeRows, imageIn, written, lentAfter}
-use Rattle.images.specs.declared.Block.{Block}
-use Rattle.images.proofs.Rows.{all-passed}
+use Rattle.images.proofs.Rows.{image-fits}
 use Rattle.images.proofs.writer.write.Statement.{statement}
 use Rattle.images.proofs.writer.write.Tie as tie
 
@@ -24,17 +19,6 @@ told : (c : tie.After-verdict)
     ≡ verdict (writeRows (c .before .before .before .args .blocks) (length (now (c .before .before .before .args .lent))))
 unfolding writeRows
 told c = rw (c .verdict .ensures, c .before .image-size .ensures)
-
--- the row of the lent bytes does not hold
-fits : (blocks : List Block) (lent : ℕ) → verdict (writeRows blocks lent) .number ≡ 0 → length (imageIn blocks) ≤ lent
-unfolding writeRows
-fits blocks lent none =
-    by (ltb lent (length (imageIn blocks))) refl (all-passed 0 blocks (row 5 0 (ltb lent (length (imageIn blocks))) ∷ []) none .1)
-  where
-    by : (t : Bool) → ltb lent (length (imageIn blocks)) ≡ t → verdict (row 5 0 t ∷ []) .number ≡ 0
-        → length (imageIn blocks) ≤ lent
-    by true e z = absurd (omega arith)
-    by false e z = ltb-false lent (length (imageIn blocks)) e
 
 put-bodies-requires : tie.Need-put-bodies-requires
 unfolding behind
@@ -58,7 +42,7 @@ returns c =
     let all = and-then (bodies (storedIn blocks) 15) (entries-put .put-entries .ensures)
     (bodies-put .put-bodies .ensures .place, bodies-put .put-bodies .ensures .out) in (
       rw (told (test .before), none, test .before .before .image-size .ensures),
-      rw none (all .out ∙ written-front (imageIn blocks) lent (fits blocks (length lent) none)),
+      rw none (all .out ∙ written-front (imageIn blocks) lent (image-fits blocks (length lent) none)),
     )
 
 returns-2 : tie.Need-returns-2
