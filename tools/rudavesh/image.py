@@ -80,13 +80,14 @@ def arguments() -> argparse.ArgumentParser:
                                    formatter_class=argparse.RawDescriptionHelpFormatter)  # fmt: skip
 
     make = command("make", "make an image of files of settings; blocks that are not named are empty")
-    make.add_argument("image", metavar="IMAGE", help="the file to write; it is replaced when all is done, and not before")
+    make.add_argument("image", metavar="IMAGE", help="the file to write; an image that is there is replaced when all is done, "
+                      "and not before; a text is not replaced")  # fmt: skip
     make.add_argument("blocks", metavar="BLOCK=FILE", nargs="+", type=block_and_file, help="a block, 0 to 14, and its settings; "
                       "'-' reads standard input")  # fmt: skip
     lists = command("list", "list the blocks of an image, and whether the supervisor loads them")
-    lists.add_argument("image", metavar="IMAGE")
+    lists.add_argument("image", metavar="IMAGE", help="'-' reads standard input")
     show = command("show", "print a block of an image as a file of settings")
-    show.add_argument("image", metavar="IMAGE")
+    show.add_argument("image", metavar="IMAGE", help="'-' reads standard input")
     show.add_argument("block", metavar="BLOCK", type=a_block, help="0 to 14")
     choose = command("choose", "print the block that the analog choice gives for a count")
     choose.add_argument("count", metavar="COUNT", type=a_count, help="of the analog input, 0 to 4095")
@@ -120,7 +121,7 @@ def text_of(name: str) -> str:
 
 
 def called(name: str) -> str:
-    """What messages call a file of settings."""
+    """What messages call a file that is read."""
     return "<stdin>" if name == STANDARD_INPUT else name
 
 
@@ -142,6 +143,8 @@ def target_of(name: str) -> Path:
         raise Told(1, f"{name} is no file, and no image is written there.")
     if not target.parent.is_dir():
         raise Told(1, f"{name}: there is no folder {target.parent}")
+    if target.exists() and not os.access(target, os.W_OK):
+        raise Told(1, f"{name} cannot be written: it is write-protected.")
     return target
 
 
@@ -166,6 +169,17 @@ def same_file(one: str, other: str) -> bool:
     return os.path.exists(one) and os.path.exists(other) and os.path.samefile(one, other)
 
 
+def is_text(name: str) -> bool:
+    """Whether a file is there and is no image, whole or damaged: every image has zero bytes, and no text has."""
+    if not os.path.isfile(name):
+        return False
+    try:
+        front = read_image(Path(name))
+    except OSError:
+        return False
+    return bool(front) and (is_utf16(front) or b"\0" not in front)
+
+
 def make(parser: argparse.ArgumentParser, name: str, given: List[Tuple[int, str]]) -> int:
     files = dict(given)
     blocks = [block for block, _ in given]
@@ -178,6 +192,10 @@ def make(parser: argparse.ArgumentParser, name: str, given: List[Tuple[int, str]
         parser.error(f"the first word is the image to write, and '{name}' is a block with its settings")
     if any(same_file(name, file) for file in files.values()):
         parser.error(f"'{name}' would be replaced by the image, and it is a file of settings")
+    if name == STANDARD_INPUT:
+        parser.error("an image is written to a file: give its name in the place of '-'")
+    if is_text(name):
+        parser.error(f"'{name}' would be replaced by the image, and it is a text and no image; remove it first, or give another name")
     target = target_of(name)
     filled = read_files(files)
     if filled is None:
@@ -197,11 +215,13 @@ def make(parser: argparse.ArgumentParser, name: str, given: List[Tuple[int, str]
 def image_of(name: str) -> bytes:
     """The bytes of an image, if a record can carry them."""
     try:
-        image = read_image(Path(name))
+        image = sys.stdin.buffer.read(MOST_OF_A_RECORD + 1) if name == STANDARD_INPUT else read_image(Path(name))
+    except AttributeError as error:
+        raise Told(2, "standard input is closed.") from error
     except OSError as error:
-        raise Told(2, f"{name}: {error.strerror}") from error
+        raise Told(2, f"{called(name)}: {error.strerror}") from error
     if len(image) > MOST_OF_A_RECORD:
-        raise Told(1, f"{name} is malformed: it is longer than {MOST_OF_A_RECORD} bytes, and an image has at most {MOST}.")
+        raise Told(1, f"{called(name)} is malformed: it is longer than {MOST_OF_A_RECORD} bytes, and an image has at most {MOST}.")
     return image
 
 
@@ -214,7 +234,7 @@ def well_formed(name: str, image: bytes, answered: List[Answer]) -> None:
     if found and False in said:
         raise Unexpected(f"the reader takes {name}, and a rule is found that it breaks: {found}")
     if found:
-        raise Told(1, f"{name} is malformed: {found}")
+        raise Told(1, f"{called(name)} is malformed: {found}")
 
 
 def list_blocks(name: str) -> int:
@@ -244,7 +264,7 @@ def show(name: str, block: int) -> int:
     if answer.number == NO_BLOCK:
         raise Told(1, f"there is no block {block}: an image has blocks 0 to {BLOCKS - 1}.")
     if answer.number == EMPTY:
-        raise Told(1, f"block {block} of {name} is empty.")
+        raise Told(1, f"block {block} of {called(name)} is empty.")
     if answer.number != DONE:
         raise Unexpected(f"the reader answers {answer} for block {block}")
     settings = settings_read(answer)
@@ -263,6 +283,9 @@ def choose(count: int) -> int:
 
 def main() -> int:
     parser = arguments()
+    below = next((word for word in sys.argv[2:] if re.match("-[0-9]+=", word)), None)
+    if below:  # argparse would take it for an option
+        parser.error(f"'{below.partition('=')[0]}' is no block: these are 0 to {BLOCKS - 1}")
     given = parser.parse_args()
     try:
         if given.command == "make":

@@ -51,17 +51,19 @@ def bytes_that(count: int, one: str, many: str) -> str:
     return f"1 byte {one}" if count == 1 else f"{count} bytes {many}"
 
 
-def wrong_offset(entries: List[Entry], block: int, wanted: int) -> str:
+def wrong_offset(entries: List[Entry], block: int, wanted: int, size: int) -> str:
     """What is wrong with an offset that is not where the body has to begin."""
     said = entries[block].offset
     words = f"its body is said to begin at byte {said}, and has to begin at byte {wanted}"
     if said < ENTRIES:
-        return f"{words}: before that stand the entries"
+        return f"{words}: byte {said} belongs to the entries"
     if said < wanted:
         return f"{words}: it overlaps the body of a block before it"
     later = [other for other in range(block + 1, BLOCKS) if entries[other].kind == 1 and entries[other].offset == wanted]
     if later:
         return f"{words}: the body of block {later[0]} is there, and bodies stand in the order of the blocks"
+    if said > size:
+        return f"{words}: the image has {size} bytes"
     return f"{words}: {bytes_that(said - wanted, 'before it belongs', 'before it belong')} to no block"
 
 
@@ -82,7 +84,7 @@ def broken(image: bytes) -> Optional[Broken]:
         if kind == 0:
             continue
         if offset != end:
-            return Broken(at + 1, block, wrong_offset(entries, block, end))
+            return Broken(at + 1, block, wrong_offset(entries, block, end, len(image)))
         if length not in LENGTHS:
             return Broken(at + 3, block, f"its body is said to have {length} bytes, and has {LENGTHS[0]} or {LENGTHS[1]}")
         end += length

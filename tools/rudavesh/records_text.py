@@ -16,6 +16,9 @@ COUNT = (1, 1_000_000_000, "repeat")
 KIND_OF_WORD = {**{kind.letter.lower(): kind for kind in ALL_KINDS}, **{kind.word: kind for kind in KINDS}}
 BLOCK, BLOCK_LETTER = "block", "B"
 WORDS = [kind.word for kind in KINDS] + [BLOCK, "raw", "repeat"]
+NAME_AND_VALUE = "expected NAME=VALUE without spaces"
+
+LINE_END = re.compile("\r*\n|\r")  # Unix's, Windows', and of an old Mac
 
 Error = Tuple[int, int, str]  # line, column, message
 
@@ -47,6 +50,9 @@ class TextError(Exception):
 def plain(name: str) -> str:
     """Names are compared without regard to case, '_' and '-'."""
     return name.lower().replace("_", "").replace("-", "")
+
+
+SETTINGS = {plain(one.name) for one in LOAD_WITH_SENSORS.fields}
 
 
 def nearest(name: str, known: List[str]) -> str:
@@ -83,7 +89,7 @@ def read_named(kind: Kind, words: List[Word], before: Optional[Dict[int, int]] =
     for word in words:
         name, equals, value = word.text.partition("=")
         if not (name and equals and value):
-            raise TextError(word.column, f"expected NAME=VALUE without spaces, found '{word.text}'")
+            raise TextError(word.column, f"{NAME_AND_VALUE}, found '{word.text}'")
         place = places.get(plain(name))
         if place is None:
             raise TextError(word.column, f"{kind.word} has no '{name}'; " + nearest(name, [one.name for one in wide.fields]))
@@ -155,6 +161,8 @@ def read_step(words: List[Word], end: int, folder: Path) -> Union[Record, bytes]
         return read_block(rest, end, folder)
     if "=" in first.text:
         raise TextError(first.column, "NAME=VALUE stands behind the word of its record, or after a load in lines of their own")
+    if is_setting(first):
+        raise TextError(first.column, f"{NAME_AND_VALUE}, found '{first.text}'")
     known = [word for word in WORDS if word != first.text]
     raise TextError(first.column, f"'{first.text}' is no record; " + nearest(first.text, known))
 
@@ -178,6 +186,11 @@ def read_repeat(repeat: Repeat, words: List[Word], end: int, repeats: List[Repea
 
 def is_load(word: Word) -> bool:
     return KIND_OF_WORD.get(word.text.lower()) in (LOAD, LOAD_WITH_SENSORS)
+
+
+def is_setting(word: Word) -> bool:
+    """Whether a word without = is, or begins with, the name of a setting, as in 'ParkTime = 5' and 'ParkTime:5'."""
+    return "=" not in word.text and plain(re.split("[^A-Za-z0-9_-]", word.text)[0]) in SETTINGS
 
 
 def goes_on(words: List[Word], body: list) -> bool:
@@ -206,7 +219,7 @@ def read_line(number: int, words: List[Word], repeats: List[Repeat], folder: Pat
 
 def lines_of(text: str) -> Iterator[Tuple[int, List[Word]]]:
     """The lines of a text that hold more than a comment: their numbers and words."""
-    for number, line in enumerate(text.split("\n"), start=1):
+    for number, line in enumerate(LINE_END.split(text), start=1):
         found = re.finditer(r"[{}]|[^\s{}]+", line.partition("#")[0])
         words = [Word(match.start() + 1, match.group()) for match in found]
         if words:

@@ -3,7 +3,7 @@
 from typing import List, NamedTuple, Optional, Sequence, Tuple
 
 from .record_form import LOAD, LOAD_WITH_SENSORS, Kind
-from .records_text import Error, is_load, lines_of, read_text
+from .records_text import Error, is_load, is_setting, lines_of, read_text
 
 ONE_LOAD = "a file of settings has one load and nothing else"
 # "24 or 25 numbers"
@@ -34,7 +34,7 @@ def read_settings(text: str) -> Tuple[Optional[Settings], List[Error]]:
     whole, errors = read_text(text)
     firsts = [(number, words[0]) for number, words in lines_of(text)]
     loads = [(number, word) for number, word in firsts if is_load(word)]
-    others = [(number, word) for number, word in firsts if not is_load(word) and "=" not in word.text]
+    others = [(number, word) for number, word in firsts if not (is_load(word) or is_setting(word) or "=" in word.text)]
     # What is no load is not judged as the record that it is.
     told = {number: (number, column, message) for number, column, message in errors}
     told.update({number: (number, word.column, f"'{word.text}': {ONE_LOAD}") for number, word in others})

@@ -28,7 +28,8 @@ class Make(Case):
     def test_settings_in_many_lines_as_numbers_and_by_standard_input(self):
         many = "# big\nload\n  VdcOvLevel=2900   # volts\n\n  hallangleoffset=0xFFF9\n  sensors=2\n"
         plain = "load " + " ".join(map(str, WITH_TWO))
-        for text in (many, many.replace("\n", "\r\n"), "\ufeff" + many, plain, "M VdcOvLevel=2900 HallAngleOffset=-7 sensors=2"):
+        others = [many.replace("\n", end) for end in ("\r\n", "\r\r\n", "\r")]  # Windows', twice converted, of an old Mac
+        for text in (many, *others, "\ufeff" + many, plain, "M VdcOvLevel=2900 HallAngleOffset=-7 sensors=2"):
             self.assertEqual(self.made(f"5={self.text('x', text)}"), image({5: WITH_TWO}))
             self.assertEqual(self.made("5=-", given=text.encode()), image({5: WITH_TWO}))
 
@@ -57,7 +58,7 @@ class Make(Case):
                                 for block, (name, value) in enumerate(beyond.items())])  # fmt: skip
 
     def test_an_image_is_replaced_with_its_mode_and_through_a_link(self):
-        text, there = self.text("a", "load"), self.file("there", b"old")
+        text, there = self.text("a", "load"), self.file("there", image({}))
         there.chmod(0o640)
         (self.room / "link").symlink_to(there)
         self.done("make", self.room / "link", f"1={text}")
@@ -93,6 +94,8 @@ class ListAndShow(Case):
         shown = self.done("show", file, 3)
         self.assertEqual(re.findall(r"^  (\w+)=(-?\d+) +# \S", shown, re.M), list(zip([*SETTINGS, "sensors"], map(str, WITH_TWO))))
         self.assertIn("\n  VdcLvLevel=1000           # 0..4095, below VdcOvLevel\n", shown)
+        self.assertEqual(self.done("show", "-", 3, given=file.read_bytes()), shown)
+        self.assertEqual(self.done("list", "-", given=file.read_bytes()), self.done("list", file))
         self.assertNotIn("sensors", self.done("show", file, 10))
 
     def test_what_is_shown_is_made_again(self):

@@ -39,7 +39,11 @@ MALFORMED = [
     (with_bytes(13, 0, 48), "byte 13, block 2: it is empty and has the length 48"),
     (with_bytes(15, 0), "byte 16, block 3: it is empty and has the offset 123"),
     (with_bytes(10, 1), "byte 11, block 2: its body is said to begin at byte 0, and has to begin at byte 123: "
-                        "before that stand the entries"),
+                        "byte 0 belongs to the entries"),
+    (with_bytes(16, *high_first(74)), "byte 16, block 3: its body is said to begin at byte 74, and has to begin at byte 123: "
+                                      "byte 74 belongs to the entries"),
+    (with_bytes(16, 123, 0), "byte 16, block 3: its body is said to begin at byte 31488, and has to begin at byte 123: "
+                             "the image has 221 bytes"),
     (with_bytes(6, *high_first(76)), "byte 6, block 1: its body is said to begin at byte 76, and has to begin at byte 75: "
                                      "1 byte before it belongs to no block"),
     (with_bytes(10, 1, 0, 123), "byte 13, block 2: its body is said to have 0 bytes, and has 48 or 50"),
@@ -119,6 +123,10 @@ class Texts(Case):
         ("load\n  ParkTime=5\n\n  parktime=6\n", "4:3: ParkTime is given twice"),
         ("load ParkTime=65536\n", "1:15: ParkTime 65536 does not fit two bytes: 0 to 65535"),
         ("load 1 2 3\n", "1:11: load takes 24 plain numbers in order, or 25 with sensors, found 3"),
+        ("load\n  ParkTime = 5\n", "2:3: expected NAME=VALUE without spaces, found 'ParkTime'"),
+        ("load\n  park_time: 5\n", "2:3: expected NAME=VALUE without spaces, found 'park_time:'"),
+        ("load\n  sensors:2\n", "2:3: expected NAME=VALUE without spaces, found 'sensors:2'"),
+        ("load # old Mac\r  ParkTime=5\r  MinSpdd=6\r", "3:3: load has no 'MinSpdd'"),
         ("load \x1b[2J\n", "1:6: expected NAME=VALUE without spaces, found '\ufffd[2J'"),
     ]
 
@@ -150,7 +158,8 @@ class Files(Case):
             self.told(self.image("list", name), 2, f"image: {name}: {words}")
             self.told(self.image("show", name, 3), 2, f"image: {name}: {words}")
             self.told(self.image("make", self.room / "x.image", f"3={name}"), 2, f"image: {name}: {words}")
-        self.told(self.image("make", self.room / "x.image", "3=-", preexec_fn=lambda: os.close(0)), 2, "standard input is closed")
+        for words in (("make", self.room / "x.image", "3=-"), ("list", "-"), ("show", "-", 3)):
+            self.told(self.image(*words, preexec_fn=lambda: os.close(0)), 2, "standard input is closed")
 
     def test_that_cannot_be_written(self):
         text = f"3={self.text('settings', 'load')}"
@@ -163,13 +172,17 @@ class Files(Case):
             shut = self.room / "shut"
             shut.mkdir(mode=0o555)
             self.told(self.image("make", shut / "x.image", text), 1, "cannot be written: Permission denied")
+            kept = self.file("kept.image", GOOD)
+            kept.chmod(0o444)
+            self.told(self.image("make", kept, text), 1, f"image: {kept} cannot be written: it is write-protected.")
+            self.assertEqual(kept.read_bytes(), GOOD)
 
     def test_a_write_that_fails_leaves_the_image_that_was_there(self):
-        text, there = self.text("settings", "load"), self.file("x.image", b"old")
+        text, there = self.text("settings", "load"), self.file("x.image", GOOD)
         limit = lambda: resource.setrlimit(resource.RLIMIT_FSIZE, (100, 100))  # noqa: E731
         done = self.image("make", there, f"3={text}", preexec_fn=limit)
         self.assertEqual((done.returncode, done.stdout), (1, b""), done.stderr)
-        self.assertEqual(there.read_bytes(), b"old")
+        self.assertEqual(there.read_bytes(), GOOD)
         self.assertEqual([file.name for file in self.room.iterdir() if file.name.startswith(".")], [])
 
     @unittest.skipUnless(Path("/dev/full").exists(), "no full disk to write to")
@@ -193,9 +206,9 @@ class Use(Case):
 
     def test_wrong_use_is_told_with_the_usage(self):
         for words in ("", "--nonsense", "mak", "make", "make x", "make x y", "make x =y", "make x 3=", "make x 15=y", "make x -1=y",
-                      "make x a=y", "make x 1=y 1=z", "make x 1=- 2=-", "make x \u0663=y", "list", "list x y", "show x", "show x y",
-                      "show x 256", "show x -1", "choose", "choose x", "choose 65536", "choose -1", "choose 1.5", "choose 0x10",
-                      "choose " + "9" * 5000):  # fmt: skip
+                      "make - 3=y", "make x a=y", "make x 1=y 1=z", "make x 1=- 2=-", "make x \u0663=y", "list", "list x y",
+                      "show x", "show x y", "show x 256", "show x -1", "choose", "choose x", "choose 65536", "choose -1",
+                      "choose 1.5", "choose 0x10", "choose " + "9" * 5000):  # fmt: skip
             done = self.image(*words.split())
             said = done.stderr.decode()
             self.assertEqual((done.returncode, done.stdout), (2, b""), words)
@@ -204,7 +217,9 @@ class Use(Case):
             self.assertNotIn("Traceback", said)
         self.assertEqual(self.asked(), [])
         self.assertIn("block 1 is given twice", self.image("make", "x", "1=y", "1=z").stderr.decode())
-        self.assertIn("'15' is no block: these are 0 to 14", self.image("make", "x", "15=y").stderr.decode())
+        for block in ("15", "-1"):
+            self.assertIn(f"'{block}' is no block: these are 0 to 14", self.image("make", "x", f"{block}=y").stderr.decode())
+        self.assertIn("an image is written to a file", self.image("make", "-", "3=y", cwd=self.room).stderr.decode())
 
     def test_settings_are_not_replaced_by_a_slip(self):
         text = self.text("settings", "load")
@@ -213,6 +228,11 @@ class Use(Case):
             done = self.image("make", image_name, "1=settings", cwd=self.room)
             self.assertEqual((done.returncode, text.read_bytes()), (2, b"load"))
             self.assertIn(f"'{image_name}' would be replaced by the image, and it is a file of settings", done.stderr.decode())
+        for content in (b"load ParkTime=5\n", "load\n".encode("utf-16"), b"\xef\xbb\xbf# notes\n"):
+            other = self.file("other", content)
+            done = self.image("make", "other", "1=settings", cwd=self.room)
+            self.assertEqual((done.returncode, other.read_bytes()), (2, content))
+            self.assertIn("'other' would be replaced by the image, and it is a text and no image", done.stderr.decode())
         done = self.image("make", "1=settings", "2=settings", cwd=self.room)
         self.assertEqual((done.returncode, (self.room / "1=settings").exists()), (2, False))
         self.assertIn("the first word is the image to write, and '1=settings' is a block", done.stderr.decode())

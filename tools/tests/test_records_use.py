@@ -18,6 +18,9 @@ from .records_case import Case
 class Errors(Case):
     CASES = [
         ("\n  tik", 2, 3, "'tik' is no record; nearest: tick"),
+        ("load\n  ParkTime = 5", 2, 3, "expected NAME=VALUE without spaces, found 'ParkTime'"),
+        ("tick # a\rtik", 2, 1, "'tik' is no record; nearest: tick"),
+        ("tick\r\r\ntik", 2, 1, "'tik' is no record; nearest: tick"),
         ("xyzzy 1", 1, 1, "known: load, cycle, tick, block, raw, repeat"),
         ("tick sped=600", 1, 6, "tick has no 'sped'; nearest: speed"),
         ("tick temp=1", 1, 6, "nearest: temperature"),
