@@ -111,10 +111,17 @@ impl Drive {
     pub(crate) fn load_or(self, settings: [u16; ALL_SETTINGS], left: Drive) -> Reply
         ensures { λ r. ⌜ r ≡ settle (verdict (loadRows self settings)) (loaded (meant settings)) left ⌝ }
     {
-        let state = self.state;
-        let verdict = loadable(state, settings::verdict(settings));
         let sensors = chosen(settings);
-        settle(verdict, fresh(State::Stop, kept(settings), sensors), left)
+        let next = fresh(State::Stop, kept(settings), sensors);
+        settle(self.refusal(settings), next, left)
+    }
+
+    // What refuses a load of these settings.
+    fn refusal(self, settings: [u16; ALL_SETTINGS]) -> Verdict
+        ensures { λ r. ⌜ r ≡ verdict (loadRows self settings) ⌝ }
+    {
+        let state = self.state;
+        loadable(state, settings::verdict(settings))
     }
 
     fn summed(self, cycle: Cycle) -> Offsets

@@ -1,4 +1,4 @@
--- `load_or` settles by the rows of the load, of which that of the length never holds.
+-- `load_or` settles by what refuses the load; accepted, all is as at power-up but state, settings and sensors.
 use mathlib.Core.Path.{_≡_}
 use lib.ListN.{length}
 use borrow.Author.Needs.{needs}
@@ -12,20 +12,16 @@ counted start = search needs
 
 returns : tie.Need-returns
 returns c =
-    let chosen = c .before .before .before in
-    let start = chosen .before .before .before in
+    let made = c .before .before in
+    let start = made .before .before .before in
     rw (
       c .settle .ensures,
-      c .before .fresh .ensures,
-      c .before .before .kept .ensures,
-      chosen .chosen .ensures,
-      chosen .before .loadable .ensures,
-      chosen .before .before .verdict .ensures,
+      c .before .refusal .ensures,
+      made .fresh .ensures,
+      made .before .kept .ensures,
+      made .before .before .chosen .ensures,
       meant-of-25 (start .args .settings) (counted start),
-      counted start,
     )
 
 pub load-or-spec : {M : Type 1} → statement M
-load-or-spec =
-    tie.close (tie.spec (search needs) (search needs) (search needs) (search needs) (search needs) (search needs)
-    returns)
+load-or-spec = tie.close (tie.spec (search needs) (search needs) (search needs) (search needs) (search needs) returns)
