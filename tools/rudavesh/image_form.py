@@ -91,7 +91,8 @@ def broken(image: bytes) -> Optional[Broken]:
         ends.append((block, end))
     if len(image) < end:
         cut = next(block for block, its_end in ends if len(image) < its_end)
-        return Broken(len(image), cut, f"the image ends in its body: {bytes_that(end - len(image), 'is missing', 'are missing')}")
+        missing = bytes_that(end - len(image), "of the image is missing", "of the image are missing")
+        return Broken(len(image), cut, f"the image ends in its body: {missing}")
     if len(image) > end:
         return Broken(end, None, f"the last body ends before it, and {bytes_that(len(image) - end, 'follows', 'follow')}")
     return None

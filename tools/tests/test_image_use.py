@@ -57,9 +57,9 @@ MALFORMED = [
     (with_bytes(46, *high_first(123), of=with_bytes(16, *high_first(173))), "byte 16, block 3: its body is said to begin at byte 173, "
      "and has to begin at byte 123: the body of block 9 is there, and bodies stand in the order of the blocks"),
     (with_bytes(8, 0, 50), "byte 16, block 3: its body is said to begin at byte 123, and has to begin at byte 125"),
-    (GOOD[:-1], "byte 220, block 9: the image ends in its body: 1 byte is missing"),
-    (GOOD[:130], "byte 130, block 3: the image ends in its body: 91 bytes are missing"),
-    (GOOD[:75], "byte 75, block 1: the image ends in its body: 146 bytes are missing"),
+    (GOOD[:-1], "byte 220, block 9: the image ends in its body: 1 byte of the image is missing"),
+    (GOOD[:130], "byte 130, block 3: the image ends in its body: 91 bytes of the image are missing"),
+    (GOOD[:75], "byte 75, block 1: the image ends in its body: 146 bytes of the image are missing"),
     (GOOD + b"\n", "byte 221: the last body ends before it, and 1 byte follows"),
     (GOOD + bytes(1827), "byte 221: the last body ends before it, and 1827 bytes follow"),
     (image({}) + bytes(2), "byte 75: the last body ends before it, and 2 bytes follow"),
@@ -95,7 +95,8 @@ class Malformed(Case):
         self.program("blockline", "cat >/dev/null; for i in 0 1 2 3 4 5 6 7 8 9 10 11 12 13 14; do echo 7 0; done\n")
         self.told(self.image("list", good), 1, f"image: internal error: the reader calls {good} malformed, number 7, and no rule")
         self.program("blockline", "cat >/dev/null; for i in 0 1 2 3 4 5 6 7 8 9 10 11 12 13 14; do echo 9 0; done\n")
-        self.told(self.image("list", bad), 1, f"image: internal error: the reader takes {bad}, and a rule", "1 byte is missing")
+        self.told(self.image("list", bad), 1, f"image: internal error: the reader takes {bad}, and a rule",
+                  "1 byte of the image is missing")
         self.told(self.image("list", good), 1, "image: internal error: the reader answers number 9, place 0 for block 1, whose kind is 1")
 
 
