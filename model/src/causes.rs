@@ -15,8 +15,9 @@ pub const BAD_SLOTS: i64 = 8;
 /// "otherwise it grows to at most 4096": the still count, when it is full.
 pub const FULL_STILL_COUNT: i64 = 4096;
 
-/// "the absolute speed lies in MinSpd..4095"
-pub const MOST_LOCKED_SPEED: i64 = 4095;
+/// "the absolute speed lies in MinSpd..4095"; M-103: "the range is every
+/// absolute speed up to 4095."
+pub const LOCKED_SPEEDS: std::ops::RangeInclusive<i64> = 0..=4095;
 
 impl Drive {
     /// Counts this tick for flags 4, 7 and 14.  "Bits 4, 7 and 14 count only
@@ -102,12 +103,13 @@ impl Drive {
     }
 
     /// "7: the absolute TrqRef is at least MotorLim and the absolute speed
-    /// lies in MinSpd..4095".
+    /// lies in MinSpd..4095"; M-103: "01 starts its speed range at MinSpd.
+    /// [...] the house rule now differs: the range is every absolute speed up
+    /// to 4095."
     fn count_rotor_lock(&mut self, fields: &TickFields) {
         let settings = &self.settings;
         let torque_high = fields.trq_ref.abs() >= settings[Setting::MotorLim];
-        let locked_speeds = settings[Setting::MinSpd]..=MOST_LOCKED_SPEED;
-        if torque_high && locked_speeds.contains(&fields.speed.abs()) {
+        if torque_high && LOCKED_SPEEDS.contains(&fields.speed.abs()) {
             self.rotor_lock_ticks += 1;
         } else {
             self.rotor_lock_ticks = 0;

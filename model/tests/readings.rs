@@ -88,7 +88,7 @@ fn a_rotor_lock_run_must_be_consecutive() {
             ..locked()
         },
         TickFields {
-            speed: 599,
+            speed: 4096,
             ..locked()
         },
         TickFields {

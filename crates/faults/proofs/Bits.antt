@@ -14,12 +14,12 @@ use Rattle.numbers.proofs.Tests.{or-left, or-right, or-cases, decide}
 use Rattle.faults.specs.Word.{bit, flag, _or_, with, together, live, any}
 
 -- a last bit is 0 or 1
-last : (P : ℕ → Type 0) (n : ℕ) → n < 2 → P 0 → P 1 → P n
+pub last : (P : ℕ → Type 0) (n : ℕ) → n < 2 → P 0 → P 1 → P n
 last P zero small p0 p1 = p0
 last P (suc zero) small p0 p1 = p1
 last P (suc (suc n)) small p0 p1 = absurd (not-suc-le-zero (le-of-suc-le-suc (le-of-suc-le-suc small)))
 
-two : (P : ℕ → ℕ → Type 0) (m n : ℕ) → m < 2 → n < 2 → (P 0 0 × P 0 1) × (P 1 0 × P 1 1) → P m n
+pub two : (P : ℕ → ℕ → Type 0) (m n : ℕ) → m < 2 → n < 2 → (P 0 0 × P 0 1) × (P 1 0 × P 1 1) → P m n
 two P m n small small′ p =
     last (λ m. P m n) m small (last (P 0) n small′ (p .0 .0) (p .0 .1)) (last (P 1) n small′ (p .1 .0) (p .1 .1))
 
@@ -52,7 +52,7 @@ from-bit k zero t = absurd (subst (λ (n : ℕ). T (eqb (n % 2) 1)) (zero-div (2
 from-bit k (suc word) t = no-eqb {a = suc word} {b = 0} (λ none. omega (arith, none))
 
 -- .. and one that is not 0 has a bit: its last one, or one of its half
-some-bit : {C : Type 0} (word : ℕ) → T (any word) → ((k : ℕ) → T (bit k word) → C) → C
+pub some-bit : {C : Type 0} (word : ℕ) → T (any word) → ((k : ℕ) → T (bit k word) → C) → C
 some-bit {C} =
     bin-ind (λ (word : ℕ). T (any word) → ((k : ℕ) → T (bit k word) → C) → C) (λ t found. absurd t)
     (λ word half t found.

@@ -1,11 +1,11 @@
--- Document 01, "Causes": what bits 4, 7 and 14 count in MOTORRUN.
+-- Document 01, "Causes", and 02, M-103: what bits 4, 7 and 14 count in MOTORRUN.
 use Prim.Native.Nat.{ℕ, _*_, _/_}
 use mathlib.Core.Bool.{Bool, false, _&&_, _||_, not, cond}
 use mathlib.Core.List.{List}
 use lib.Dec.{eqb, ltb, leb}
 use lib.IntN.{pos, natAbs}
 use Rattle.numbers.specs.Count.{up}
-use Rattle.settings.specs.Settings.{FluxFaultTime, RotorLockTime, HallTimeoutPeriod, MinSpd, MotorLim}
+use Rattle.settings.specs.Settings.{FluxFaultTime, RotorLockTime, HallTimeoutPeriod, MotorLim}
 use Rattle.fields.specs.declared.Tick.{Tick}
 use Rattle.motor.specs.declared.Slots.{Slots}
 use Rattle.motor.specs.declared.Run.{Run}
@@ -53,9 +53,10 @@ lasting limit holds count = cond holds (up limit count) 0
 abbrev pub lasts : ℕ → Bool → ℕ → Bool
 lasts limit holds count = holds && eqb (up limit count) limit
 
--- 7: "the absolute TrqRef is at least MotorLim and the absolute speed lies in MinSpd..4095"
+-- 7: "the absolute TrqRef is at least MotorLim and the absolute speed lies in MinSpd..4095"; 02, M-103: "01 starts its speed range at
+-- MinSpd. .. the house rule now differs: the range is every absolute speed up to 4095."
 abbrev pub locked : List ℕ → Tick → Bool
-locked s t = leb (MotorLim s) (natAbs (t .«trq_ref»)) && leb (MinSpd s) (natAbs (t .speed)) && leb (natAbs (t .speed)) 4095
+locked s t = leb (MotorLim s) (natAbs (t .«trq_ref»)) && leb (natAbs (t .speed)) 4095
 
 -- one tick taken in MOTORRUN: the counts after it, and which of the three causes stand; 7: "for 10 x RotorLockTime consecutive ticks";
 -- 14: "the still count is 4096 for 10 x HallTimeoutPeriod consecutive ticks, and while this goes on"

@@ -8,7 +8,6 @@ use numbers::absolute;
 use numbers::count_up;
 use settings::FLUX_FAULT_TIME;
 use settings::HALL_TIMEOUT_PERIOD;
-use settings::MIN_SPD;
 use settings::MOTOR_LIM;
 use settings::ROTOR_LOCK_TIME;
 use settings::SETTING_COUNT;
@@ -74,7 +73,7 @@ fn locked(settings: [u16; SETTING_COUNT], tick: Tick) -> bool
 {
     let torque = absolute(tick.trq_ref);
     let speed = absolute(tick.speed);
-    (settings[MOTOR_LIM] <= torque) & (settings[MIN_SPD] <= speed) & (speed <= 4095)
+    (settings[MOTOR_LIM] <= torque) & (speed <= 4095)
 }
 
 impl Run {

@@ -1,13 +1,14 @@
 -- This drive obeys the laws of demand 3 at every call, and so demand 3 holds of the log of every sequence of its calls.
 use mathlib.Core.Path.{_≡_, refl, sym, subst}
 use mathlib.Core.Bool.{Bool, true, false, not, _&&_, _||_}
-use mathlib.Core.List.{List}
+use mathlib.Core.List.{List, [], _∷_}
 use Prim.Native.Nat.{ℕ, _≤_, zero-le}
 use native.Mathlib.Omega.{arith}
 use lib.Dec.{T, eqb, ltb, ltb→lt, not-T}
 use lib.ListN.{length, getD}
 use mir.Facts.{and-yes, ltb-no}
-use Rattle.theorems_history.specs.Onlooker.{Memory, Asked, load, neither, heard, remember, noted, note}
+use Rattle.theorems_history.specs.Log.{stateAfter, log}
+use Rattle.theorems_history.specs.Onlooker.{Memory, Asked, load, neither, heard, remember, noted, note, memoryOf}
 use Rattle.theorems_history.specs.History.{Seen}
 use Rattle.theorems_history.specs.Laws.{Step, Lawful}
 use Rattle.numbers.proofs.Tests.{by-test, decide, or-left, fails-left, fails-right, contrary, joins}
@@ -43,7 +44,7 @@ use Rattle.theorems_reached.specs.Reached.{Reached}
 use Rattle.verdicts.proofs.Passed.{passed, both-passed}
 use Rattle.drive.proofs.Settles.{settles}
 use Rattle.theorems_reached.proofs.Loads.{accepted-state, accepted-count}
-use Rattle.theorems_reached.proofs.Keeps.{reached-power-up, marked-reached, cycled-reached, call-keeps}
+use Rattle.theorems_reached.proofs.Keeps.{reached-power-up, marked-reached, cycled-reached, call-keeps, every-reached}
 use Rattle.theorems_reached.proofs.Corollaries.{in-idle, disarmed-in-fault, low-excludes-high}
 use Rattle.onlooker.specs.Words.{words, asked, deadAfter, deadCauseOf}
 use Rattle.theorems_demands.specs.Supervised.{DriveDemand3}
@@ -274,6 +275,13 @@ module _ (d : Drive) (r : Reached d) (memory : Memory) (knows : Remembers d memo
       (block-load-refused image block _ _)
 
 -- ---- every call
+
+-- what the onlooker remembers of a log is so after its calls
+pub remembered : (calls : List Call) → Remembers (stateAfter machine calls) (memoryOf words (log machine calls))
+unfolding stateAfter log memoryOf
+remembered [] = remembers-power-up
+remembered (call ∷ earlier) =
+    done (stateAfter machine earlier) (every-reached earlier) (memoryOf words (log machine earlier)) (remembered earlier) call .remembers
 
 pub lawful : Lawful machine words
 lawful =

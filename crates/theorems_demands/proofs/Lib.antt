@@ -11,6 +11,10 @@ pub mod Says
 pub mod BlockLoads
 pub mod Refused
 pub mod FlagTwelve
+pub mod Held
+pub mod FlagSeven
+pub mod Stalled
+pub mod StalledRow
 pub mod Computes
 pub mod Bench
 pub mod NamedRuns

@@ -36,6 +36,11 @@ passed (r ∷ rows) t e =
     let first = first-passed (r .holds) (record { number = r .number; place = r .place }) (verdict rows) positive e in
     (first .0, passed rows (and-yes (ltb 0 (r .number)) (numbered rows) t .1) (first .1))
 
+-- .. and a table of which no row holds refuses nothing
+pub none-holds : (rows : List Row) → Passed rows → verdict rows .number ≡ 0
+none-holds [] p = refl
+none-holds (r ∷ rows) p = rw (is-false (r .holds) (p .0)) (none-holds rows (p .1))
+
 -- two tables, one behind the other: where the first refuses nothing it is the second's verdict, else the first's
 pub behind-passed : (rows later : List Row) → T (numbered rows) → verdict rows .number ≡ 0
     → verdict (rows ++ later) ≡ verdict later

@@ -1,7 +1,7 @@
 //! The fields of a tick.
 
 use super::Generator;
-use crate::causes::{BAD_SLOTS, GOOD_FLUX, MOST_LOCKED_SPEED};
+use crate::causes::{BAD_SLOTS, GOOD_FLUX, LOCKED_SPEEDS};
 use crate::fields::MOST_LEVEL;
 use crate::flag::Flag;
 use crate::random::Random;
@@ -220,6 +220,7 @@ impl Generator {
         let settings = self.drive.settings;
         let random = &mut self.random;
         let any = random.between(0, 32767);
+        let most = *LOCKED_SPEEDS.end();
         let around =
             |value: i64, random: &mut Random| (value + random.between(-1, 1)).clamp(0, 32767);
         let value = match self.drive.state {
@@ -237,21 +238,18 @@ impl Generator {
                     random.pick(&fast)
                 }
             }
-            State::MotorRun
-                if self.mood.rotor_lock && settings[Setting::MinSpd] <= MOST_LOCKED_SPEED =>
-            {
+            State::MotorRun if self.mood.rotor_lock => {
                 if random.chance(990) {
-                    random.leaning(settings[Setting::MinSpd], MOST_LOCKED_SPEED)
+                    // Held fast, or at the speed where 01's range began.
+                    let least = around(settings[Setting::MinSpd], random).min(most);
+                    let turning = random.leaning(0, most);
+                    random.pick(&[0, 0, least, turning, turning])
                 } else {
-                    random.pick(&[
-                        (settings[Setting::MinSpd] - 1).max(0),
-                        MOST_LOCKED_SPEED + 1,
-                    ])
+                    most + 1
                 }
             }
             _ => {
                 let near = around(settings[Setting::MinSpd], random);
-                let most = MOST_LOCKED_SPEED;
                 random.pick(&[near, most - 1, most, most + 1, 0, 1, 32767, any, any])
             }
         };

@@ -1,7 +1,7 @@
 //! MOTORRUN: the counts of flags 4, 7 and 14, and the speed reference.
 
 use super::{add_all, Reached, Seen};
-use crate::causes::{BAD_SLOTS, GOOD_FLUX, MOST_LOCKED_SPEED};
+use crate::causes::{BAD_SLOTS, GOOD_FLUX, LOCKED_SPEEDS};
 use crate::flag::Flag;
 use crate::settings::Setting;
 use crate::state::State;
@@ -20,7 +20,10 @@ counted_names! {
         TimeOutGoesOn => "run: flag 14 goes on standing",
         StillnessEndedShort => "run: Hall stillness ended one tick short",
         StillnessKeptOverStep => "run: Hall stillness kept over a step and 4096 still cycles",
-        MinSpdAboveLockedSpeeds => "run: MinSpd above 4095 with torque at least MotorLim",
+        StandingShaft => "run: flag 7 stands at speed 0",
+        StandingShaftMasked => "run: flag 7 goes on standing at speed 0",
+        LockedBelowMinSpd => "run: flag 7 stands below MinSpd",
+        MinSpdAboveLockedSpeeds => "run: flag 7 stands with MinSpd above 4095",
     }
 }
 
@@ -127,6 +130,25 @@ impl Reached {
         self.count_if(counted.rotor_lock_ticks > needed, Count::RotorLockGoesOn);
         let short = before.rotor_lock_ticks == needed - 1 && counted.rotor_lock_ticks == 0;
         self.count_if(short, Count::RotorLockEndedShort);
+        let stands = fields.speed == 0;
+        self.count_if(
+            stands && counted.rotor_lock_ticks == needed,
+            Count::StandingShaft,
+        );
+        self.count_if(
+            stands && counted.rotor_lock_ticks > needed,
+            Count::StandingShaftMasked,
+        );
+        let least = settings[Setting::MinSpd];
+        let locked = Flag::RotorLock.is_in(causes);
+        self.count_if(
+            locked && fields.speed.abs() < least,
+            Count::LockedBelowMinSpd,
+        );
+        self.count_if(
+            locked && !LOCKED_SPEEDS.contains(&least),
+            Count::MinSpdAboveLockedSpeeds,
+        );
 
         let needed = 10 * settings[Setting::HallTimeoutPeriod];
         self.count_if(counted.hall_still_ticks == needed, Count::TimeOutStands);
@@ -136,11 +158,6 @@ impl Reached {
         let kept_over = self.watch.newly_kept_since_tick && counted.hall_still_ticks >= 2;
         self.count_if(kept_over, Count::StillnessKeptOverStep);
 
-        let torque_high = fields.trq_ref.abs() >= settings[Setting::MotorLim];
-        self.count_if(
-            torque_high && settings[Setting::MinSpd] > MOST_LOCKED_SPEED,
-            Count::MinSpdAboveLockedSpeeds,
-        );
     }
 
     fn observe_ramp(&mut self, seen: &Seen, fields: &TickFields) {

@@ -1,7 +1,7 @@
 //! Values at, just below and just above what they are compared with.
 
 use super::{Reached, Seen};
-use crate::causes::{GOOD_FLUX, MOST_LOCKED_SPEED};
+use crate::causes::{GOOD_FLUX, LOCKED_SPEEDS};
 use crate::settings::Setting;
 use crate::state::State;
 use crate::tick_fields::{TickFields, TICK_RULES};
@@ -135,18 +135,17 @@ impl Reached {
                 );
             }
             State::MotorRun => {
-                if fields.trq_ref.abs() >= settings[Setting::MotorLim]
-                    && settings[Setting::MinSpd] <= MOST_LOCKED_SPEED
-                {
+                if fields.trq_ref.abs() >= settings[Setting::MotorLim] {
+                    // 01's range began there, M-103's does not.
                     self.absolute(
                         Absolute::LeastLockedSpeed,
                         fields.speed,
                         settings[Setting::MinSpd],
                     );
-                    self.absolute(Absolute::MostLockedSpeed, fields.speed, MOST_LOCKED_SPEED);
+                    let most = *LOCKED_SPEEDS.end();
+                    self.absolute(Absolute::MostLockedSpeed, fields.speed, most);
                 }
-                let speed = fields.speed.abs();
-                if settings[Setting::MinSpd] <= speed && speed <= MOST_LOCKED_SPEED {
+                if LOCKED_SPEEDS.contains(&fields.speed.abs()) {
                     self.absolute(
                         Absolute::Torque,
                         fields.trq_ref,

@@ -16,4 +16,4 @@ returns c =
     )
 
 pub locked-spec : {M : Type 1} → statement M
-locked-spec = tie.close (tie.spec (search needs) (search needs) (search needs) (search needs) returns)
+locked-spec = tie.close (tie.spec (search needs) (search needs) (search needs) returns)

@@ -1,0 +1,173 @@
+-- A stalled pump is reported: flag 7 is what the log tells, exactly, and a whole row of held ticks leads to it.
+use mathlib.Core.Path.{_≡_, refl, sym, subst, ap, _∙_}
+use mathlib.Core.Bool.{Bool, true, false, not, _&&_, cond}
+use mathlib.Core.List.{List, [], _∷_, _++_}
+use Prim.Native.Nat.{ℕ, suc, _+_, _*_}
+use native.Mathlib.Omega.{arith}
+use lib.Dec.{T, eqb, ltb, leb}
+use lib.IntN.{natAbs}
+use lib.ListN.{take, drop}
+use lib.Ieee.Bits.{is-true, is-false}
+use mir.Facts.{ltb-no}
+use Rattle.faults.specs.Word.{bit, flag, _or_}
+use Rattle.faults.proofs.Bits.{new-bit}
+use Rattle.states.specs.States.{is}
+use Rattle.states.proofs.Every.{at-every}
+use Rattle.settings.specs.Settings.{FaultEnable, RotorLockTime}
+use Rattle.fields.specs.declared.Tick.{Tick}
+use Rattle.motor.specs.Counts.{watched, locked}
+use Rattle.verdicts.specs.Table.{Row, row, verdict}
+use Rattle.verdicts.specs.declared.Verdict.{Verdict}
+use Rattle.verdicts.proofs.Passed.{Passed, passed, none-holds}
+use Rattle.drive.specs.Answer.{answer, reply as replied}
+use Rattle.drive.specs.Command.{low}
+use Rattle.drive.specs.Refusals.{tickRows}
+use Rattle.drive.specs.Calls.{settle}
+use Rattle.drive.specs.Ticks.{standing, raised, alight, ticked}
+use Rattle.drive.specs.Ticks as TickCalls
+use Rattle.drive.specs.Flags.{alive}
+use Rattle.drive.specs.AnyCall.{Call, ticks, reply}
+use Rattle.drive.specs.declared.Drive.{Drive}
+use Rattle.drive.specs.declared.answer.Reply.{Reply}
+use Rattle.drive.proofs.Settles.{settles}
+use Rattle.theorems_history.specs.Log.{stateAfter, log}
+use Rattle.theorems_history.specs.Onlooker.{memoryOf}
+use Rattle.theorems_reached.specs.Machine.{machine}
+use Rattle.theorems_reached.specs.Reached.{Reached}
+use Rattle.theorems_reached.proofs.Keeps.{every-reached}
+use Rattle.theorems_reached.proofs.Loads.{at-least}
+use Rattle.onlooker.specs.Words.{words, enabled, lowOf}
+use Rattle.theorems_demands.specs.Stalled.{Log, inMotorRun, numbersOf, stalledFor, lockTicks, slack, answered, trippedBy7}
+use Rattle.theorems_demands.specs.Stalled.{FlagSeven, long, FlagSevenIsExact}
+use Rattle.theorems_demands.proofs.Remembers.{Remembers}
+use Rattle.theorems_demands.proofs.Lawful.{remembered}
+use Rattle.theorems_demands.proofs.Held.{Counted, all-counted, log-now}
+use Rattle.theorems_demands.proofs.FlagSeven as seven
+
+either-first : (a b : Bool) → (a && b) ≡ (b && a)
+either-first true true = refl
+either-first true false = refl
+either-first false true = refl
+either-first false false = refl
+
+other-way : {A : Type 0} (test : Bool) (a b : A) → cond (not test) a b ≡ cond test b a
+other-way true a b = refl
+other-way false a b = refl
+
+-- a reply with the number 0 was accepted
+accepted-by : (v : Verdict) (next left : Drive) → settle v next left .answer .number ≡ 0 → v .number ≡ 0
+unfolding answer
+accepted-by v next left =
+    settles (λ (r : Reply). r .answer .number ≡ 0 → v .number ≡ 0) v next left (λ none e. none) (λ given e. e)
+
+accepts : (v : Verdict) (next left : Drive) → v .number ≡ 0 → settle v next left ≡ replied 0 0 next
+accepts v next left none = rw none
+
+-- another row that does not hold in the place of one
+passed-with :
+    (before : List Row) (r other : Row) (behind : List Row)
+    → Passed (before ++ (r ∷ behind))
+    → T (not (other .holds))
+    → Passed (before ++ (other ∷ behind))
+passed-with [] r other behind p fails = (fails, p .1)
+passed-with (q ∷ before) r other behind p fails = (p .0, passed-with before r other behind (p .1) fails)
+
+module _ (earlier : List Call) (t : Tick) (runs : T (inMotorRun (log machine earlier))) (taken : answered earlier t .number ≡ 0) where
+  abbrev d : Drive
+  d = stateAfter machine earlier
+
+  abbrev past : Log
+  past = log machine earlier
+
+  abbrev numbers : List ℕ
+  numbers = numbersOf past
+
+  knows : Remembers d (memoryOf words past)
+  knows = remembered earlier
+
+  r : Reached d
+  r = every-reached earlier
+
+  running : T (is 4 (d .state))
+  running = rw (knows .shown) at runs
+
+  outside : T (not (is 0 (d .state)))
+  outside = at-every (is 4) (λ s. not (is 0 s)) tt (d .state) running
+
+  -- the tick, with its torque and without
+  none : verdict (tickRows d t) .number ≡ 0
+  unfolding TickCalls.tick
+  none = accepted-by (verdict (tickRows d t)) (ticked d t) d taken
+
+  none-slack : verdict (tickRows d (slack t)) .number ≡ 0
+  none-slack =
+      let rows : List Row = tickRows d t in
+      none-holds (tickRows d (slack t))
+      (passed-with (take 9 rows) (row 1 9 (ltb 4095 (natAbs (t .«trq_ref»)))) (row 1 9 false) (drop 10 rows) (passed rows tt none) tt)
+
+  answer-is : answered earlier t ≡ answer 0 0 (ticked d t)
+  unfolding TickCalls.tick
+  answer-is = ap (λ (a : Reply). a .answer) (accepts (verdict (tickRows d t)) (ticked d t) d none)
+
+  left-is : machine .step d (ticks t) ≡ ticked d t
+  unfolding TickCalls.tick
+  left-is = ap (λ (a : Reply). a .drive) (accepts (verdict (tickRows d t)) (ticked d t) d none)
+
+  slack-is : answered earlier (slack t) ≡ answer 0 0 (ticked d (slack t))
+  unfolding TickCalls.tick
+  slack-is = ap (λ (a : Reply). a .answer) (accepts (verdict (tickRows d (slack t))) (ticked d (slack t)) d none-slack)
+
+  -- ---- what the log tells, and what the drive counts
+
+  -- the row with this tick
+  row-now : stalledFor (log machine (ticks t ∷ earlier)) ≡ cond (is 4 (d .state) && locked (d .settings) t) (suc (stalledFor past)) 0
+  unfolding log stalledFor
+  row-now = rw taken (log-now d past knows (all-counted earlier) t outside)
+
+  long-enough : long earlier t ≡ seven.lock d t
+  unfolding watched
+  long-enough =
+      rw (row-now, knows .loaded outside .setting 6 (omega arith), is-true (is 4 (d .state)) running, all-counted earlier running)
+      (sym
+      (seven.full (locked (d .settings) t) (stalledFor past) (10 * RotorLockTime (d .settings))
+      (omega (arith, at-least (r .settings outside) 6 (omega arith)))))
+
+  enabled-alike : enabled 7 numbers ≡ bit 7 (FaultEnable (d .settings))
+  enabled-alike = rw (knows .loaded outside .setting 1 (omega arith))
+
+  low-alike : lowOf numbers t ≡ low (d .settings) t
+  low-alike = rw (knows .loaded outside .setting 0 (omega arith), knows .loaded outside .setting 21 (omega arith))
+
+  set-alike : (enabled 7 numbers && long earlier t) ≡ (seven.lock d t && bit 7 (FaultEnable (d .settings)))
+  set-alike = rw (enabled-alike, long-enough) (either-first (bit 7 (FaultEnable (d .settings))) (seven.lock d t))
+
+  -- ---- the tick's answer
+
+  shown-is : bit 7 (answered earlier t .live) ≡ (enabled 7 numbers && long earlier t)
+  shown-is = rw (set-alike, answer-is, seven.live-after d running t) (seven.shows-7 d running t r)
+
+  moves-is : answered earlier t .state ≡ cond (eqb (answered earlier t .live) 0) (cond (lowOf numbers t) 1 4) 5
+  moves-is =
+      rw (answer-is, seven.live-after d running t, low-alike, seven.state-after d running t)
+      (other-way (eqb (alive (d .settings) (raised d t)) 0) 5 (cond (low (d .settings) t) 1 4))
+
+  stands-is : T (long earlier t) → T (bit 7 (machine .step d (ticks t) .flags))
+  stands-is enough =
+      rw (left-is, seven.flags-after d running t, seven.parted d t)
+      (new-bit 7 (d .flags) (seven.others d t or flag 7 (seven.lock d t))
+      (new-bit 7 (seven.others d t) (flag 7 (seven.lock d t)) (rw (is-true (seven.lock d t) (rw long-enough at enough)) tt)))
+
+  alone-is :
+      answered earlier (slack t) .state ≡ 4
+      → answered earlier t
+      ≡ cond (enabled 7 numbers && long earlier t) (trippedBy7 (answered earlier (slack t))) (answered earlier (slack t))
+  alone-is runs-on = rw (set-alike, answer-is, slack-is) (seven.only-7 d running t (r .settings outside) (rw slack-is at runs-on))
+
+pub flag-seven-is-exact : FlagSevenIsExact
+flag-seven-is-exact earlier t runs taken =
+    record {
+      shown = shown-is earlier t runs taken;
+      moves = moves-is earlier t runs taken;
+      stands = stands-is earlier t runs taken;
+      alone = alone-is earlier t runs taken;
+    }

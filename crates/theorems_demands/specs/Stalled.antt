@@ -1,0 +1,155 @@
+-- Document 02, M-103, of calls and answers: "A stalled pump that no one reports. With cold polymer the shaft stands, speed reads about zero,
+-- and bit 7 stays quiet because 01 starts its speed range at MinSpd. Document 004 does too, but the house rule now differs: the range is
+-- every absolute speed up to 4095." Whoever reads a log can count for how many ticks a shaft has been held; the answers say the same.
+-- Settings are the numbers of the last accepted load and the state is the one that the last answer showed, both as the onlooker of demand 3
+-- remembers them. One thing is read off the drive's state: a masked flag 7, which no answer shows.
+use Prim.Native.Nat.{ℕ, suc, _+_, _*_, _^_}
+use mathlib.Core.Bool.{Bool, _&&_, cond}
+use mathlib.Core.Path.{_≡_}
+use mathlib.Core.List.{List, [], _∷_, _++_}
+use lib.Dec.{T, eqb, leb}
+use lib.IntN.{pos, natAbs}
+use Rattle.faults.specs.Word.{bit}
+use Rattle.fields.specs.declared.Tick.{Tick}
+use Rattle.theorems_history.specs.Log.{Entry, stateAfter, log}
+use Rattle.theorems_history.specs.Onlooker.{Asked, load, tick, neither, heard, isTick, memoryOf}
+use Rattle.drive.specs.AnyCall.{Call, loads, cycles, ticks, blockLoads}
+use Rattle.drive.specs.declared.answer.Answer.{Answer}
+use Rattle.theorems_reached.specs.Machine.{machine}
+use Rattle.onlooker.specs.Words.{words, setting, enabled, lowOf}
+
+abbrev pub Log : Type 0
+Log = List (Entry Call Answer)
+
+abbrev pub numbersOf : Log → List ℕ
+numbersOf past = memoryOf words past .numbers
+
+-- "4 MOTORRUN"
+abbrev pub inMotorRun : Log → Bool
+inMotorRun past = eqb (memoryOf words past .shown) 4
+
+-- 7: "the absolute TrqRef is at least MotorLim", setting 13; 02: "every absolute speed up to 4095"
+abbrev pub stalls : List ℕ → Tick → Bool
+stalls s t = leb (setting 13 s) (natAbs (t .«trq_ref»)) && leb (natAbs (t .speed)) 4095
+
+-- "consecutive ticks", of "only ticks taken in MOTORRUN, from zero at each entry": a cycle and a refused call are no ticks
+abbrev pub oneMore : (numbers : List ℕ) (running : Bool) → Asked Tick → ℕ → ℕ
+oneMore s running (load numbers) before = 0
+oneMore s running (tick t) before = cond (running && stalls s t) (suc before) 0
+oneMore s running neither before = before
+
+-- how many there are in a row, up to the newest entry
+unfoldable pub stalledFor : Log → ℕ
+stalledFor [] = 0
+stalledFor (e ∷ past) = oneMore (numbersOf past) (inMotorRun past) (heard words e) (stalledFor past)
+
+-- "for 10 x RotorLockTime consecutive ticks", setting 7
+abbrev pub lockTicks : List ℕ → ℕ
+lockTicks s = 10 * setting 7 s
+
+-- the same tick without torque: it is held by nothing, for MotorLim is at least 1
+abbrev pub slack : Tick → Tick
+slack t =
+    record {
+      «gate_kill» = t .«gate_kill»;
+      clear = t .clear;
+      command = t .command;
+      control = t .control;
+      «vdc_raw» = t .«vdc_raw»;
+      «vdc_filt» = t .«vdc_filt»;
+      temperature = t .temperature;
+      «flx_m» = t .«flx_m»;
+      «trq_ref» = pos 0;
+      speed = t .speed;
+      target = t .target;
+    }
+
+-- what a tick would be answered after these calls
+abbrev pub answered : List Call → Tick → Answer
+answered earlier t = machine .answer (stateAfter machine earlier) (ticks t)
+
+-- a trip by flag 7 and nothing else, in place of this answer: "5 FAULT", its gates off, its reference 0
+abbrev pub trippedBy7 : Answer → Answer
+trippedBy7 a =
+    record {
+      number = 0;
+      place = 0;
+      state = 5;
+      gate = 0;
+      live = 2 ^ 7;
+      reference = pos 0;
+      position = a .position;
+      angle = a .angle;
+      offsets = a .offsets;
+      retries = a .retries;
+    }
+
+-- ---- flag 7, exactly: an accepted tick that is taken in MOTORRUN, after any sequence of calls from power-up
+
+module _ (earlier : List Call) (t : Tick) where
+  abbrev loaded : List ℕ
+  loaded = numbersOf (log machine earlier)
+
+  -- the row of held ticks is long enough with this one
+  abbrev pub long : Bool
+  long = leb (lockTicks loaded) (stalledFor (log machine (ticks t ∷ earlier)))
+
+  pub record FlagSeven : Type 0 where
+    -- the answer shows flag 7 just where the row is long enough and "its FaultEnable bit is 1", whatever else stands
+    pub shown : bit 7 (answered earlier t .live) ≡ (enabled 7 loaded && long)
+    -- "any live flag moves to FAULT. Else .. a low moves to STOP. Else: .. 4 MOTORRUN: stays."
+    pub moves : answered earlier t .state ≡ cond (eqb (answered earlier t .live) 0) (cond (lowOf loaded t) 1 4) 5
+    -- masked or not, the flag stands
+    pub stands : T long → T (bit 7 (machine .step (stateAfter machine earlier) (ticks t) .flags))
+    -- "no low and no other cause": the drive would run on without the torque. Then the torque makes this trip, or nothing.
+    pub alone :
+        answered earlier (slack t) .state ≡ 4
+        → answered earlier t
+        ≡ cond (enabled 7 loaded && long) (trippedBy7 (answered earlier (slack t))) (answered earlier (slack t))
+
+abbrev pub FlagSevenIsExact : Type 0
+FlagSevenIsExact =
+    (earlier : List Call) (t : Tick)
+    → T (inMotorRun (log machine earlier))
+    → answered earlier t .number ≡ 0
+    → FlagSeven earlier t
+
+-- ---- a whole row: "in MOTORRUN .. for 10 x RotorLockTime accepted ticks in a row, no low and no other cause"
+
+-- a tick that is accepted after these calls stalls, and without its torque the drive would run on; nothing is asked of any other call
+abbrev pub held : List Call → Call → Type 0
+held earlier (loads numbers) = Unit {0}
+held earlier (cycles fields) = Unit {0}
+held earlier (ticks t) =
+    answered earlier t .number ≡ 0
+    → T (stalls (numbersOf (log machine earlier)) t)
+    × (answered earlier (slack t) .state ≡ 4)
+held earlier (blockLoads image block) = Unit {0}
+
+-- each of these calls, the newest first, that are made after the earlier ones
+unfoldable pub Row : (row earlier : List Call) → Type 0
+Row [] earlier = Unit {0}
+Row (call ∷ row) earlier = held (row ++ earlier) call × Row row earlier
+
+-- how many accepted ticks are among them
+unfoldable pub taken : (row earlier : List Call) → ℕ
+taken [] earlier = 0
+taken (call ∷ row) earlier =
+    cond (isTick words (heard words (record { call = call; answer = machine .answer (stateAfter machine (row ++ earlier)) call })))
+    (suc (taken row earlier))
+    (taken row earlier)
+
+-- From MOTORRUN on, whatever calls come between the ticks: the tick that makes the row long enough trips by flag 7 alone; where bit 7 is
+-- masked the drive runs on, as it would without the torque, and the flag stands.
+abbrev pub StalledPumpIsReported : Type 0
+StalledPumpIsReported =
+    (earlier row : List Call) (t : Tick)
+    → T (inMotorRun (log machine earlier))
+    → Row (ticks t ∷ row) earlier
+    → answered (row ++ earlier) t .number ≡ 0
+    → stalledFor (log machine earlier) + suc (taken row earlier) ≡ lockTicks (numbersOf (log machine earlier))
+    → (answered (row ++ earlier) t
+      ≡ cond (enabled 7 (numbersOf (log machine earlier)))
+      (trippedBy7 (answered (row ++ earlier) (slack t)))
+      (answered (row ++ earlier) (slack t)))
+    × T (bit 7 (machine .step (stateAfter machine (row ++ earlier)) (ticks t) .flags))
