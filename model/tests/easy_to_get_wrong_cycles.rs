@@ -169,10 +169,7 @@ fn flag_7_counts_no_tick_outside_motorrun() {
     let drive = ticks(&drive, &held, 30);
     assert_eq!((drive.state, drive.flags), (State::OpenLoop, 0));
     // The tick that enters is not counted, either.
-    let entering = TickFields {
-        speed: 600,
-        ..held
-    };
+    let entering = TickFields { speed: 600, ..held };
     let drive = tick(&drive, &entering);
     assert_eq!(ticks(&drive, &held, 9).state, State::MotorRun);
     assert_eq!(ticks(&drive, &held, 10).flags, 1 << 7);

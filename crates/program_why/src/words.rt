@@ -122,7 +122,7 @@ const WORDS: [u8; 1891] = *b"
  Flx_M out of 512..8192 in eight slots in a row (bit 4)
  a bit without a meaning (bit 5)
  temperature above Tshutdown (bit 6)
- rotor locked: TrqRef at MotorLim, speed MinSpd..4095 (bit 7)
+ rotor locked: TrqRef at MotorLim, speed at most 4095 (bit 7)
  a bit without a meaning (bit 8)
  a bit without a meaning (bit 9)
  a bit without a meaning (bit 10)

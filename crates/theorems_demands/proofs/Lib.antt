@@ -21,3 +21,4 @@ pub mod NamedRuns
 pub mod WrongDrives
 pub mod WrongBlockLoads
 pub mod WrongFlags
+pub mod WrongStalls

@@ -9,6 +9,33 @@ use crate::record::Record;
 use crate::settings::Setting;
 use crate::state::State;
 
+/// The states of a start, each with settings that let it last.
+pub(super) const LASTING: [(State, &[(Setting, u16)]); 5] = [
+    (State::BtsCharge, &[(Setting::BtsChargeTime, 65535)]),
+    (State::CatchSpin, &[(Setting::TCatchSpin, 65535)]),
+    (
+        State::AngleSensing,
+        &[(Setting::TCatchSpin, 0), (Setting::IsPulses, 255)],
+    ),
+    (
+        State::Parking,
+        &[
+            (Setting::TCatchSpin, 0),
+            (Setting::IsPulses, 0),
+            (Setting::ParkTime, 65535),
+        ],
+    ),
+    (
+        State::OpenLoop,
+        &[
+            (Setting::TCatchSpin, 0),
+            (Setting::IsPulses, 0),
+            (Setting::OpenLoopRamp, 1),
+            (Setting::MinSpd, 16383),
+        ],
+    ),
+];
+
 impl Generator {
     /// Anything that a mood brings about.
     pub(super) fn free_episode(&mut self) {
@@ -43,31 +70,9 @@ impl Generator {
 
     /// A state of the start that lasts, so that the mood has time in it.
     fn linger(&mut self) {
-        let (state, given): (State, &[(Setting, u16)]) = match self.random.between(0, 6) {
-            0 => (State::BtsCharge, &[(Setting::BtsChargeTime, 65535)]),
-            1 => (State::CatchSpin, &[(Setting::TCatchSpin, 65535)]),
-            2 => (
-                State::AngleSensing,
-                &[(Setting::TCatchSpin, 0), (Setting::IsPulses, 255)],
-            ),
-            3 => (
-                State::Parking,
-                &[
-                    (Setting::TCatchSpin, 0),
-                    (Setting::IsPulses, 0),
-                    (Setting::ParkTime, 65535),
-                ],
-            ),
-            _ => (
-                State::OpenLoop,
-                &[
-                    (Setting::TCatchSpin, 0),
-                    (Setting::IsPulses, 0),
-                    (Setting::OpenLoopRamp, 1),
-                    (Setting::MinSpd, 16383),
-                ],
-            ),
-        };
+        // OPENLOOP, the last of them, most often: a stream comes there least.
+        let place = self.random.between(0, 6).min(LASTING.len() as i64 - 1);
+        let (state, given) = LASTING[place as usize];
         // Half of the time Hall noise does not trip.
         let masked = self.random.chance(500);
         let mut given = given.to_vec();

@@ -4,6 +4,7 @@
 use super::choose_cycle::Wish;
 use super::choose_load::{load_of, THREE, TWO, UNTOLD};
 use super::choose_tick::Command;
+use super::episodes::LASTING;
 use super::mood::Mood;
 use super::Generator;
 use crate::hall::TWO_SENSORS;
@@ -18,6 +19,7 @@ impl Generator {
             self.turns_through_zero();
             self.stray_trips();
             self.refused_by_two_sensors();
+            self.refused_on_the_way();
             self.loads_of_either_kind();
         }
     }
@@ -85,6 +87,15 @@ impl Generator {
             let told = self.random.pick(&[UNTOLD, TWO, Some(BAD_SENSORS[0])]);
             self.emit(load_of(settings, told));
         }
+    }
+
+    /// A pattern that two sensors do not give, in a state of a start.
+    fn refused_on_the_way(&mut self) {
+        let (state, given) = self.random.pick(&LASTING);
+        self.load_with_sensors(given, TWO);
+        self.mood = Mood::calm(&mut self.random);
+        self.go_to(state, 1000);
+        self.cycles(&[4, 5, 6, 7]);
     }
 
     /// Each kind after each, and what three sensors take after two.

@@ -157,7 +157,6 @@ impl Reached {
         self.count_if(short, Count::StillnessEndedShort);
         let kept_over = self.watch.newly_kept_since_tick && counted.hall_still_ticks >= 2;
         self.count_if(kept_over, Count::StillnessKeptOverStep);
-
     }
 
     fn observe_ramp(&mut self, seen: &Seen, fields: &TickFields) {

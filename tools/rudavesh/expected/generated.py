@@ -12,7 +12,7 @@ from .. import line_form, model, places
 from ..record_form import LOAD, LOAD_WITH_SENSORS, whole_records
 from . import Files
 
-SEED, RECORDS = 1700, 3000
+SEED, RECORDS = 10, 3000
 TOO_SLOW = {14}
 # A block load alone sets it, and no record of shiftline is one: M-102.
 NOT_HERE = {12}

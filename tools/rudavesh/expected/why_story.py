@@ -90,6 +90,7 @@ def told() -> Story:
     story.load("loaded: mode 1, 1 retry allowed", ControlMode=1, RetryLimit=1)
     story.load("loaded: mode 0, no timed retries")
     small_pump(story)
+    cold_start(story)
     return story
 
 
@@ -114,6 +115,26 @@ def small_pump(story: Story) -> None:
     story.load("loaded: mode 0, no timed retries", sensors=3)
     story.cycle(8, "cycle refused: number 1, place 1: pattern is 0..7")
     story.load("load refused: number 2, place 25: sensors is 2..3", sensors=1)
+
+
+def cold_start(story: Story) -> None:
+    """The melt is cold and the shaft stands, at speed 0: M-103."""
+    locked = "rotor locked: TrqRef at MotorLim, speed at most 4095 (bit 7)"
+    story.load("loaded: mode 1, 2 retries allowed", ControlMode=1, RotorLockTime=1, MotorLim=3000)
+    story.low()
+    for _ in range(64):
+        story.cycle(1)
+    low = story.low()
+    start(story, f"start: permitted by the low command at record {low}")
+    # nine ticks at MotorLim, one below it, and ten: of either sign, and with cycles and a refused tick between them
+    for torque in 9 * [3000] + [2999] + 9 * [-3000]:
+        story.tick(TrqRef=torque)
+        story.cycle(1)
+    story.tick("tick refused: number 1, place 9: TrqRef is -4095..4095", TrqRef=4096)
+    story.tick(f"trip: {locked}", TrqRef=3000)
+    story.tick("FAULT left: clear", clear=1)
+    # the command never fell, so that nothing starts
+    story.tick(TrqRef=3000)
 
 
 def start(story: Story, sentence: str) -> None:
