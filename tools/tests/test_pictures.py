@@ -1,5 +1,5 @@
 """The pictures in docs/ are those that tools/strip draws of the examples, from the lines of the independent model and from the reasons of
-`./why`: those of the shift as README.md shows them, those of the small pump as they are typed here from the paper's rules."""
+`./why`: those of the shift as README.md shows them, the others as they are typed here from the paper's rules."""
 
 import re
 import tempfile
@@ -27,6 +27,22 @@ record 146    gates: drive
 record 165    stop: low command
 """
 
+# M-103: "the range is every absolute speed up to 4095"; 10 x RotorLockTime is 500 ticks.
+COLD_START = """\
+record 1      loaded: mode 1, 1 retry allowed
+record 68     start: permitted by the low command at record 67
+record 72     gates: drive
+record 1696   trip: rotor locked: TrqRef at MotorLim, speed at most 4095 (bit 7)
+record 11696  FAULT left: timed retry 1 of 1; no live cause stood
+record 11697  start: permitted by the timed retry at record 11696; no low was held since the trip
+record 11701  gates: drive
+record 12205  trip: rotor locked: TrqRef at MotorLim, speed at most 4095 (bit 7)
+record 22207  FAULT left: clear
+record 22209  start: permitted by the low command at record 22208
+record 22213  gates: drive
+record 22741  stop: low command
+"""
+
 
 @unittest.skipUnless(model.can_be_built(), model.NO_CARGO)
 class Pictures(Case):
@@ -51,3 +67,6 @@ class Pictures(Case):
 
     def test_of_the_small_pump(self):
         self.same("small-pump", SMALL_PUMP, "A small pump with two Hall sensors")
+
+    def test_of_the_cold_start(self):
+        self.same("cold-start", COLD_START, "A cold start: the shaft stands")

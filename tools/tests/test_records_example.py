@@ -77,6 +77,11 @@ class Records(Example):
         self.assertTrue(letters.startswith("MMT" + 64 * "C" + "TT"))
         self.assertNotIn("L", letters)
 
+    def test_of_the_cold_start(self):
+        letters = self.letters("cold-start.txt")
+        # 300 held ticks, one that is not, 499 and the one that trips: a cycle before each but the last and the one between.
+        self.assertIn(300 * "CT" + "T" + 499 * "CT" + "T" + 9999 * "T", letters)
+
     def test_of_the_blocks(self):
         image = (EXAMPLES / "pumps.image").read_bytes()
         first = block_load(0, (EXAMPLES / "pumps/small.txt").read_bytes())
@@ -104,6 +109,16 @@ class Told(Example):
         live = [words[4] for words in bench_lines_of(self.records(EXAMPLES / "blocks.txt"))]
         self.assertEqual(live[:8], ["0", "0", "0", "4096", "4096", "4096", "4096", "0"])
         self.assertEqual(set(live[7:]), {"0"})
+
+    def test_the_cold_start_trips_by_flag_7_alone_at_the_500th_held_tick_in_a_row(self):
+        """M-103: "the range is every absolute speed up to 4095", "for 10 x RotorLockTime consecutive ticks", with RotorLockTime 50."""
+        lines = lines_of(self.records(EXAMPLES / "cold-start.txt"))
+        live = [line[17:21] for line in lines]
+        self.assertEqual(set(live), {"0000", "0080"})
+        first = live.index("0080")
+        # 76 records to MOTORRUN, 20 free ticks, 300 held ones with a cycle each, one free, 499 held ones with a cycle each
+        self.assertEqual(first, 76 + 20 + 600 + 1 + 998)
+        self.assertEqual(lines[first][:21], "0 FAULT....... 0 0080")
 
     def test_the_small_pump_counts_six_a_turn_either_way(self):
         """M-101: "a full turn is six counts either way", by 1, 2, 1 and 2 from pattern 0 on."""
