@@ -1,4 +1,4 @@
--- Words of flags as wholes: two with the same bits are one; flags are joined in any order; what is live of one flag is that flag or nothing.
+-- Words of flags as wholes: two with the same bits are one; flags are joined in any order; of one flag that flag is live or nothing.
 use mathlib.Core.Path.{_≡_, refl, sym, subst, ap, _∙_}
 use mathlib.Core.Bool.{Bool, true, false, _&&_, _||_, cond}
 use mathlib.Core.List.{List, [], _∷_, _++_}
@@ -64,7 +64,9 @@ or-assoc f g h =
     (λ k. rw (bit-or k f (g or h), bit-or k g h, bit-or k (f or g) h, bit-or k f g) (or-grouped (bit k f) (bit k g) (bit k h)))
 
 -- the first of several flags may as well be the last
-first-last : (word : ℕ) (f : ℕ × Bool) (flags : List (ℕ × Bool)) → with word (f ∷ flags) ≡ (with word flags or flag (f .0) (f .1))
+first-last :
+    (word : ℕ) (f : ℕ × Bool) (flags : List (ℕ × Bool))
+    → with word (f ∷ flags) ≡ (with word flags or flag (f .0) (f .1))
 first-last word f [] = refl
 first-last word f (g ∷ flags) =
     ap (λ (w : ℕ). with w flags) (or-swap word (flag (f .0) (f .1)) (flag (g .0) (g .1)))

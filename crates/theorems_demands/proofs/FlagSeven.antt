@@ -1,72 +1,39 @@
 -- A tick that is taken in MOTORRUN, with and without its torque: flag 7 is all the difference that the torque makes.
-use mathlib.Core.Path.{_≡_, refl, sym, subst, ap, _∙_}
-use mathlib.Core.Bool.{Bool, true, false, not, _&&_, _||_, cond}
+use mathlib.Core.Path.{_≡_, refl, sym, ap, _∙_}
+use mathlib.Core.Bool.{Bool, true, false, _&&_, cond}
 use mathlib.Core.List.{List, [], _∷_, _++_}
-use Prim.Native.Nat.{ℕ, suc, _+_, _*_, _/_, _%_, _^_, _<_, min}
+use Prim.Native.Nat.{ℕ, _+_, _/_, _%_, _^_}
 use native.Mathlib.Omega.{arith}
 use lib.Bits.{or-zero-l, or-zero-r}
 use lib.IntN.{natAbs}
 use lib.Dec.{T, eqb, leb}
 use lib.ListN.{take, drop}
 use lib.Ieee.Bits.{is-true, is-false}
-use mir.Facts.{not-T, T-not-not, yes-eqb, no-eqb, eqb-yes, leb-yes, leb-no, and-yes}
-use Rattle.numbers.proofs.Tests.{decide, fails-left, fails-right}
+use mir.Facts.{not-T, T-not-not, eqb-yes, leb-yes}
+use Rattle.numbers.proofs.Tests.{fails-left, fails-right}
 use Rattle.faults.specs.Word.{bit, flag, _or_, together, any}
-use Rattle.faults.proofs.Bits.{bit-or, bit-and, from-bit, together-within}
+use Rattle.faults.proofs.Bits.{bit-or, bit-and, together-within}
 use Rattle.faults.proofs.Joined.{or-assoc, taken-out, live-each, live-flag}
-use Rattle.states.specs.States.{numberOf, is}
-use Rattle.states.specs.declared.State.{State}
-use Rattle.states.specs.declared.State.the-variants.{Idle, Stop, OffsetCal, BtsCharge, MotorRun, Fault, CatchSpin, Parking, OpenLoop}
-use Rattle.states.specs.declared.State.the-variants.{AngleSensing}
-use Rattle.settings.specs.Settings.{FaultEnable, MotorLim, RotorLockTime}
+use Rattle.states.specs.States.{is}
+use Rattle.states.specs.declared.State.the-variants.{Stop, Fault}
+use Rattle.states.proofs.Every.{named}
+use Rattle.settings.specs.Settings.{FaultEnable, MotorLim}
 use Rattle.fields.specs.declared.Tick.{Tick}
-use Rattle.motor.specs.Counts.{watched, locked, lasts}
+use Rattle.motor.specs.Counts.{watched, locked}
 use Rattle.motor.specs.Reference.{targetOf}
 use Rattle.moves.specs.Moves.{moveOf}
 use Rattle.moves.specs.declared.Move.{Move}
 use Rattle.moves.specs.declared.Move.the-variants.{Stay, Enter}
-use Rattle.verdicts.specs.Table.{verdict}
-use Rattle.verdicts.proofs.Passed.{passed, none-holds}
 use Rattle.drive.specs.Flags.{alwaysLive, alive}
 use Rattle.drive.specs.Causes.{causeFlags, causes}
 use Rattle.drive.specs.Command.{low}
-use Rattle.drive.specs.Answer.{liveWord, answer}
-use Rattle.drive.specs.Refusals.{tickRows}
+use Rattle.drive.specs.Answer.{answer}
 use Rattle.drive.specs.Ticks.{watch, standing, raised, alight, armedBy, nth, chosen, moved, ticked}
 use Rattle.drive.specs.declared.Drive.{Drive}
-use Rattle.theorems_history.specs.Onlooker.{memoryOf}
 use Rattle.theorems_reached.specs.Reached.{Loaded, Reached}
 use Rattle.theorems_reached.proofs.Loads.{at-least}
 use Rattle.theorems_reached.proofs.Corollaries.{live-outside-fault}
-use Rattle.onlooker.specs.Words.{words, enabled, lowOf}
-use Rattle.theorems_demands.specs.Stalled.{Log, stalls, stalledFor, lockTicks, slack, trippedBy7}
-use Rattle.theorems_demands.proofs.Remembers.{Remembers}
-use Rattle.theorems_demands.proofs.Held
-
--- a count that is full, and a row that is long enough
-pub full : (holds : Bool) (k limit : ℕ) → 0 < limit → lasts limit holds (min k limit) ≡ leb limit (cond holds (suc k) 0)
-full true k limit some =
-    decide (leb limit (suc k))
-    (λ yes.
-    let reached = leb-yes {a = limit} {b = suc k} yes in
-    rw (is-true (leb limit (suc k)) yes) (is-true (eqb (min (min k limit + 1) limit) limit) (yes-eqb {a = min (min k limit + 1) limit} {b = limit} (omega (arith, reached)))))
-    (λ no.
-    let short = leb-no {a = limit} {b = suc k} no in
-    rw (is-false (leb limit (suc k)) no)
-    (is-false (eqb (min (min k limit + 1) limit) limit) (no-eqb {a = min (min k limit + 1) limit} {b = limit} (λ same. omega (arith, same, short)))))
-full false k limit some = sym (is-false (leb limit 0) (not-T (leb limit 0) (λ t. omega (arith, leb-yes {a = limit} {b = 0} t))))
-
-only-motor-run : (s : State) → T (is 4 s) → s ≡ MotorRun
-only-motor-run Idle at = absurd at
-only-motor-run Stop at = absurd at
-only-motor-run OffsetCal at = absurd at
-only-motor-run BtsCharge at = absurd at
-only-motor-run MotorRun at = refl
-only-motor-run Fault at = absurd at
-only-motor-run CatchSpin at = absurd at
-only-motor-run Parking at = absurd at
-only-motor-run OpenLoop at = absurd at
-only-motor-run AngleSensing at = absurd at
+use Rattle.theorems_demands.specs.Stalled.{slack, trippedBy7}
 
 -- ---- the causes of a tick: 7, and the others
 
@@ -128,7 +95,7 @@ module _ (d : Drive) (running : T (is 4 (d .state))) where
 
   chosen-is : (t : Tick) → chosen d t ≡ choice (trips t) (low settings t)
   unfolding moveOf
-  chosen-is t = rw (only-motor-run (d .state) running)
+  chosen-is t = rw (named 4 (d .state) running)
 
   ticked-is : (t : Tick) → ticked d t ≡ next t (choice (trips t) (low settings t))
   unfolding ticked
@@ -170,7 +137,7 @@ module _ (d : Drive) (running : T (is 4 (d .state))) where
         is-false (bit 7 (alive settings (d .flags)))
         (not-T (bit 7 (alive settings (d .flags)))
         (λ lit.
-        let none = live-outside-fault d r (rw (only-motor-run (d .state) running) tt) (rw (only-motor-run (d .state) running) tt) in
+        let none = live-outside-fault d r (rw (named 4 (d .state) running) tt) (rw (named 4 (d .state) running) tt) in
         omega (arith, none, eqb-yes {a = alive settings (d .flags) / 2 ^ 7 % 2} {b = 1} lit)))
 
     dark-but-7 : bit 7 (alive settings (d .flags or others d t)) ≡ false

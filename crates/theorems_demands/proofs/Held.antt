@@ -1,17 +1,17 @@
 -- What the drive counts for bit 7 is what the log tells: how many ticks in a row were held, up to the number that it waits for.
-use mathlib.Core.Path.{_≡_, refl}
+use mathlib.Core.Path.{_≡_, refl, sym}
 use mathlib.Core.Bool.{Bool, true, false, not, _&&_, cond}
 use mathlib.Core.List.{List, [], _∷_}
-use Prim.Native.Nat.{ℕ, suc, _+_, _*_, min}
+use Prim.Native.Nat.{ℕ, suc, _+_, _*_, _<_, min}
 use native.Mathlib.Omega.{arith}
-use lib.Dec.{T, eqb}
+use lib.Dec.{T, eqb, leb}
 use lib.Ieee.Bits.{is-true, is-false}
-use mir.Facts.{T-not}
-use Rattle.numbers.proofs.Tests.{by-test}
-use Rattle.states.specs.States.{numberOf, is}
+use mir.Facts.{not-T, yes-eqb, no-eqb, leb-yes, leb-no}
+use Rattle.numbers.proofs.Tests.{by-test, decide}
+use Rattle.states.specs.States.{is}
 use Rattle.states.specs.declared.State.{State}
-use Rattle.settings.specs.Settings.{meant, RotorLockTime}
-use Rattle.motor.specs.Counts.{watched, locked, lasting}
+use Rattle.settings.specs.Settings.{RotorLockTime}
+use Rattle.motor.specs.Counts.{watched, locked, lasting, lasts}
 use Rattle.fields.specs.declared.Cycle.{Cycle}
 use Rattle.fields.specs.declared.Tick.{Tick}
 use Rattle.verdicts.specs.Table.{verdict}
@@ -22,7 +22,7 @@ use Rattle.moves.specs.declared.Move.the-variants.{Stay, Enter, Measure, Clear,
 use Rattle.moves.proofs.Ways.{Way, Onward, trips, stops, goes-on, calibrates, starts, way-of}
 use Rattle.moves.proofs.Ways.{charged, unasked, caught, slow, unsensed, sensed, parked, unramped, fast}
 use Rattle.theorems_history.specs.Log.{Entry, stateAfter, log}
-use Rattle.theorems_history.specs.Onlooker.{Memory, tick, memoryOf}
+use Rattle.theorems_history.specs.Onlooker.{tick, memoryOf}
 use Rattle.drive.specs.Answer.{answer}
 use Rattle.drive.specs.Refusals.{loadRows, cycleRows, tickRows}
 use Rattle.drive.specs.Calls.{loaded, cycled}
@@ -39,7 +39,6 @@ use Rattle.drive.proofs.Settles.{settles}
 use Rattle.images.specs.Image.{fifteen}
 use Rattle.images.specs.Reads.{isRead}
 use Rattle.theorems_reached.specs.Machine.{machine}
-use Rattle.theorems_reached.specs.Reached.{Reached}
 use Rattle.onlooker.specs.Words.{words}
 use Rattle.theorems_demands.specs.Stalled.{Log, stalls, oneMore, stalledFor}
 use Rattle.theorems_demands.proofs.Remembers.{Remembers, flagged}
@@ -80,6 +79,21 @@ enters-from-outside (starts measured armed high calm) at = refl
 goes-on-alike : (holds : Bool) (k limit : ℕ) → lasting limit holds (min k limit) ≡ min (cond holds (suc k) 0) limit
 goes-on-alike true k limit = omega arith
 goes-on-alike false k limit = omega arith
+
+-- and it is full where the row is long enough
+pub full-alike : (holds : Bool) (k limit : ℕ) → 0 < limit → lasts limit holds (min k limit) ≡ leb limit (cond holds (suc k) 0)
+full-alike true k limit some =
+    let count : ℕ = min (min k limit + 1) limit in
+    decide (leb limit (suc k))
+    (λ yes.
+    let enough = leb-yes {a = limit} {b = suc k} yes in
+    rw (is-true (leb limit (suc k)) yes) (is-true (eqb count limit) (yes-eqb {a = count} {b = limit} (omega (arith, enough)))))
+    (λ no.
+    let short = leb-no {a = limit} {b = suc k} no in
+    rw (is-false (leb limit (suc k)) no)
+    (is-false (eqb count limit) (no-eqb {a = count} {b = limit} (λ same. omega (arith, same, short)))))
+full-alike false k limit some =
+    sym (is-false (leb limit 0) (not-T (leb limit 0) (λ none. omega (arith, leb-yes {a = limit} {b = 0} none))))
 
 module _ (d : Drive) (past : Log) (knows : Remembers d (memoryOf words past)) (counted : Counted d past) where
   abbrev numbers : List ℕ

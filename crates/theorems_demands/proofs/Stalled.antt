@@ -1,14 +1,13 @@
 -- A stalled pump is reported: flag 7 is what the log tells, exactly, and a whole row of held ticks leads to it.
-use mathlib.Core.Path.{_≡_, refl, sym, subst, ap, _∙_}
+use mathlib.Core.Path.{_≡_, refl, sym, ap}
 use mathlib.Core.Bool.{Bool, true, false, not, _&&_, cond}
 use mathlib.Core.List.{List, [], _∷_, _++_}
 use Prim.Native.Nat.{ℕ, suc, _+_, _*_}
 use native.Mathlib.Omega.{arith}
-use lib.Dec.{T, eqb, ltb, leb}
+use lib.Dec.{T, eqb, ltb}
 use lib.IntN.{natAbs}
 use lib.ListN.{take, drop}
-use lib.Ieee.Bits.{is-true, is-false}
-use mir.Facts.{ltb-no}
+use lib.Ieee.Bits.{is-true}
 use Rattle.faults.specs.Word.{bit, flag, _or_}
 use Rattle.faults.proofs.Bits.{new-bit}
 use Rattle.states.specs.States.{is}
@@ -23,10 +22,10 @@ use Rattle.drive.specs.Answer.{answer, reply as replied}
 use Rattle.drive.specs.Command.{low}
 use Rattle.drive.specs.Refusals.{tickRows}
 use Rattle.drive.specs.Calls.{settle}
-use Rattle.drive.specs.Ticks.{standing, raised, alight, ticked}
+use Rattle.drive.specs.Ticks.{raised, ticked}
 use Rattle.drive.specs.Ticks as TickCalls
 use Rattle.drive.specs.Flags.{alive}
-use Rattle.drive.specs.AnyCall.{Call, ticks, reply}
+use Rattle.drive.specs.AnyCall.{Call, ticks}
 use Rattle.drive.specs.declared.Drive.{Drive}
 use Rattle.drive.specs.declared.answer.Reply.{Reply}
 use Rattle.drive.proofs.Settles.{settles}
@@ -37,11 +36,11 @@ use Rattle.theorems_reached.specs.Reached.{Reached}
 use Rattle.theorems_reached.proofs.Keeps.{every-reached}
 use Rattle.theorems_reached.proofs.Loads.{at-least}
 use Rattle.onlooker.specs.Words.{words, enabled, lowOf}
-use Rattle.theorems_demands.specs.Stalled.{Log, inMotorRun, numbersOf, stalledFor, lockTicks, slack, answered, trippedBy7}
-use Rattle.theorems_demands.specs.Stalled.{FlagSeven, long, FlagSevenIsExact}
+use Rattle.theorems_demands.specs.Stalled.{Log, inMotorRun, numbersOf, stalledFor, slack, answered, trippedBy7}
+use Rattle.theorems_demands.specs.Stalled.{long, FlagSevenIsExact}
 use Rattle.theorems_demands.proofs.Remembers.{Remembers}
 use Rattle.theorems_demands.proofs.Lawful.{remembered}
-use Rattle.theorems_demands.proofs.Held.{Counted, all-counted, log-now}
+use Rattle.theorems_demands.proofs.Held.{full-alike, all-counted, log-now}
 use Rattle.theorems_demands.proofs.FlagSeven as seven
 
 either-first : (a b : Bool) → (a && b) ≡ (b && a)
@@ -129,7 +128,7 @@ module _ (earlier : List Call) (t : Tick) (runs : T (inMotorRun (log machine ear
   long-enough =
       rw (row-now, knows .loaded outside .setting 6 (omega arith), is-true (is 4 (d .state)) running, all-counted earlier running)
       (sym
-      (seven.full (locked (d .settings) t) (stalledFor past) (10 * RotorLockTime (d .settings))
+      (full-alike (locked (d .settings) t) (stalledFor past) (10 * RotorLockTime (d .settings))
       (omega (arith, at-least (r .settings outside) 6 (omega arith)))))
 
   enabled-alike : enabled 7 numbers ≡ bit 7 (FaultEnable (d .settings))

@@ -1,8 +1,8 @@
 -- A whole row of held ticks, from MOTORRUN on, with whatever calls between them: none of these ends it before flag 7 does.
-use mathlib.Core.Path.{_≡_, refl, sym, subst, ap, _∙_}
+use mathlib.Core.Path.{_≡_, refl, sym, _∙_}
 use mathlib.Core.Bool.{Bool, true, false, not, _&&_, _||_, cond}
 use mathlib.Core.List.{List, [], _∷_, _++_}
-use Prim.Native.Nat.{ℕ, suc, _+_, _*_}
+use Prim.Native.Nat.{ℕ, suc, _+_}
 use native.Mathlib.Omega.{arith}
 use native.Mathlib.Nat.{add-suc}
 use lib.Dec.{T, eqb, leb, not-T, le→leb}
@@ -17,7 +17,6 @@ use Rattle.verdicts.specs.Table.{verdict}
 use Rattle.verdicts.proofs.Passed.{both-passed}
 use Rattle.images.specs.Image.{fifteen}
 use Rattle.images.specs.Reads.{readRows, isRead}
-use Rattle.faults.specs.Word.{bit}
 use Rattle.drive.specs.Answer.{answer}
 use Rattle.drive.specs.Refusals.{loadRows, cycleRows, tickRows}
 use Rattle.drive.specs.Calls.{cycled}
@@ -28,17 +27,15 @@ use Rattle.drive.specs.Ticks as TickCalls
 use Rattle.drive.specs.Ticks.{ticked}
 use Rattle.drive.specs.AnyCall.{Call, loads, cycles, ticks, blockLoads, reply}
 use Rattle.drive.specs.declared.Drive.{Drive}
-use Rattle.drive.specs.declared.answer.Answer.{Answer}
 use Rattle.drive.specs.declared.answer.Reply.{Reply}
 use Rattle.drive.proofs.Settles.{settles}
 use Rattle.theorems_history.specs.Log.{stateAfter, log}
-use Rattle.theorems_history.specs.Onlooker.{Asked, tick, neither, heard, isTick, memoryOf}
+use Rattle.theorems_history.specs.Onlooker.{tick, neither, heard, isTick, memoryOf}
 use Rattle.theorems_reached.specs.Machine.{machine}
 use Rattle.theorems_reached.proofs.Loads.{accepted-state}
 use Rattle.onlooker.specs.Words.{words, asked, enabled}
 use Rattle.theorems_demands.specs.Stalled.{inMotorRun, numbersOf, stalls, stalledFor, lockTicks, slack, answered, trippedBy7}
-use Rattle.theorems_demands.specs.Stalled.{FlagSeven, long, held, Row, taken, StalledPumpIsReported}
-use Rattle.theorems_demands.proofs.Remembers.{Remembers}
+use Rattle.theorems_demands.specs.Stalled.{long, held, Row, taken, StalledPumpIsReported}
 use Rattle.theorems_demands.proofs.Lawful.{remembered}
 use Rattle.theorems_demands.proofs.Held.{made}
 use Rattle.theorems_demands.proofs.Stalled.{flag-seven-is-exact}
@@ -187,7 +184,9 @@ module _ (earlier : List Call) (runs : T (inMotorRun (log machine earlier))) whe
               still-running past t (going .running) accepted
               (rw (rw (is-false (due (suc (taken row earlier))) short) at answer-now) runs-on);
           same = same-numbers past t (going .running) accepted ∙ going .same;
-          count = longer past t (going .running) accepted stalling ∙ rw (accepted, going .count) (sym (add-suc before (taken row earlier)));
+          count =
+              longer past t (going .running) accepted stalling
+              ∙ rw (accepted, going .count) (sym (add-suc before (taken row earlier)));
         }
 
     with-other : (call : Call)
@@ -239,7 +238,9 @@ module _ (earlier : List Call) (runs : T (inMotorRun (log machine earlier))) whe
     grown (loads numbers) holds going short is = no-tick (loads numbers) tt is
     grown (cycles c) holds going short is = no-tick (cycles c) tt is
     grown (ticks t) holds going short is =
-        let accepted : answered (row ++ earlier) t .number ≡ 0 = eqb-yes (heard-tick (eqb (answered (row ++ earlier) t .number) 0) t is) in
+        let accepted : answered (row ++ earlier) t .number ≡ 0 =
+        eqb-yes (heard-tick (eqb (answered (row ++ earlier) t .number) 0) t is)
+        in
         let short-now : T (not (due (suc (taken row earlier)))) = rw (one-more t accepted) at short in
         with-tick row (going (sooner (taken row earlier) short-now)) t accepted holds short-now
     grown (blockLoads image block) holds going short is = no-tick (blockLoads image block) tt is
@@ -268,10 +269,11 @@ stalled-pump-is-reported earlier row t runs (holds, held) accepted full =
     let enough : leb (lockTicks s) (before + suc count) ≡ true =
     is-true (leb (lockTicks s) (before + suc count)) (le→leb (lockTicks s) (before + suc count) (omega (arith, full)))
     in
-    let set : due earlier runs (suc count) ≡ enabled 7 s = rw enough (and-true (enabled 7 s)) in
-    (rw (← set) (next-held earlier runs row going t accepted holds),
-     flag-seven-is-exact (row ++ earlier) t (going .running) accepted .stands
-     (rw (long-now earlier runs row going t accepted stalling, enough) tt))
+    let set : due earlier runs (suc count) ≡ enabled 7 s = rw enough (and-true (enabled 7 s)) in (
+      rw (← set) (next-held earlier runs row going t accepted holds),
+      flag-seven-is-exact (row ++ earlier) t (going .running) accepted .stands
+          (rw (long-now earlier runs row going t accepted stalling, enough) tt),
+    )
   where
     and-true : (a : Bool) → (a && true) ≡ a
     and-true true = refl

@@ -2,7 +2,7 @@
 -- `FlagSeven` says of live word and state, asked of calls and answers alone, tells each at the last tick of a run that is written out; and
 -- of this drive each of the runs ends with a tick that is taken in MOTORRUN, as it says. antt computes each verdict.
 use mathlib.Core.Path.{_≡_, refl}
-use mathlib.Core.Bool.{Bool, true, false, not, _&&_, _||_, cond, Bool·beq}
+use mathlib.Core.Bool.{Bool, true, false, not, _&&_, cond, Bool·beq}
 use mathlib.Core.List.{List, [], _∷_, _++_, reverse}
 use Prim.Native.Nat.{ℕ, _+_}
 use lib.Dec.{eqb, ltb, leb}
@@ -117,7 +117,7 @@ cold mask limit least =
     ready
     (loads
     (0 ∷ mask ∷ 3000 ∷ 1000 ∷ 3500 ∷ 3500 ∷ 1 ∷ 800 ∷ 100 ∷ 0 ∷ least ∷ 64 ∷
-     limit ∷ 7 ∷ 3 ∷ 0 ∷ 300 ∷ 0 ∷ 0 ∷ 0 ∷ 400 ∷ 300 ∷ 4096 ∷ 2 ∷ []))
+    limit ∷ 7 ∷ 3 ∷ 0 ∷ 300 ∷ 0 ∷ 0 ∷ 0 ∷ 400 ∷ 300 ∷ 4096 ∷ 2 ∷ []))
     ++ started 4
 
 abbrev running : List Call
@@ -154,8 +154,10 @@ rows =
     (overlooks (λ d t. ltb 4095 (MinSpd (d .settings))), cold 65535 4095 5000 ++ (high ∷ times 10 held)) ∷
     -- speed 0 outside; 4095 outside; 4096 inside
     (overlooks (λ d t. eqb (natAbs (t .speed)) 0), running ++ times 10 held) ∷
-    (overlooks (λ d t. eqb (natAbs (t .speed)) 4095), running ++ times 10 (tickAt 400 (pos 4095) (pos 4095))) ∷
-    (misread (λ d t. cond (eqb (natAbs (t .speed)) 4096) (atSpeed (pos 0) t) t), running ++ times 10 (tickAt 400 (pos 4095) (pos 4096))) ∷
+    (overlooks (λ d t. eqb (natAbs (t .speed)) 4095), running ++ times 10 (tickAt 400 (pos 4095) (pos 4095))) ∷ (
+      misread (λ d t. cond (eqb (natAbs (t .speed)) 4096) (atSpeed (pos 0) t) t),
+      running ++ times 10 (tickAt 400 (pos 4095) (pos 4096)),
+    ) ∷
     -- a speed or a torque judged with its sign; a torque that must be above MotorLim
     (overlooks (λ d t. ltZ (t .speed) (pos 0)), running ++ times 10 (tickAt 400 (pos 4095) (negsuc 599))) ∷
     (overlooks (λ d t. ltZ (t .«trq_ref») (pos 0)), running ++ times 10 (tickAt 400 (negsuc 4094) (pos 0))) ∷
@@ -163,9 +165,10 @@ rows =
     -- counted in any state: the tick that enters MOTORRUN is one of the ten
     (changed (λ d call r. not (is 4 (d .state)) && is 4 (r .drive .state)) (recounted (λ n. 1)), cold 65535 4095 600 ++ times 10 held) ∷
     -- the first one not counted; a row that another tick does not end
-    (overlooks (λ d t. eqb (d .ticks) 0), running ++ times 10 held) ∷
-    (changed (λ d call r. isTickWith (λ t. eqb (natAbs (t .«trq_ref»)) 0) call) (recounted (λ n. n)),
-     running ++ times 5 held ++ (high ∷ times 5 held)) ∷
+    (overlooks (λ d t. eqb (d .ticks) 0), running ++ times 10 held) ∷ (
+      changed (λ d call r. isTickWith (λ t. eqb (natAbs (t .«trq_ref»)) 0) call) (recounted (λ n. n)),
+      running ++ times 5 held ++ (high ∷ times 5 held),
+    ) ∷
     -- a row that a cycle ends, or a refused tick; a refused tick that is counted
     (changed (λ d call r. isCycle call) (recounted (λ n. 0)), running ++ (held ∷ shows 1 ∷ times 9 held)) ∷
     (changed isRefused (recounted (λ n. 0)), running ++ (held ∷ refused ∷ times 9 held)) ∷

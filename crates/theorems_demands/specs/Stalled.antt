@@ -149,7 +149,7 @@ StalledPumpIsReported =
     → answered (row ++ earlier) t .number ≡ 0
     → stalledFor (log machine earlier) + suc (taken row earlier) ≡ lockTicks (numbersOf (log machine earlier))
     → (answered (row ++ earlier) t
-      ≡ cond (enabled 7 (numbersOf (log machine earlier)))
-      (trippedBy7 (answered (row ++ earlier) (slack t)))
-      (answered (row ++ earlier) (slack t)))
+    ≡ cond (enabled 7 (numbersOf (log machine earlier)))
+    (trippedBy7 (answered (row ++ earlier) (slack t)))
+    (answered (row ++ earlier) (slack t)))
     × T (bit 7 (machine .step (stateAfter machine (row ++ earlier)) (ticks t) .flags))
