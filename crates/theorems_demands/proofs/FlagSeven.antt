@@ -1,6 +1,6 @@
 -- A tick that is taken in MOTORRUN, with and without its torque: flag 7 is all the difference that the torque makes.
 use mathlib.Core.Path.{_≡_, refl, sym, ap, _∙_}
-use mathlib.Core.Bool.{Bool, true, false, _&&_, cond}
+use mathlib.Core.Bool.{Bool, true, false, _&&_, _||_, cond}
 use mathlib.Core.List.{List, [], _∷_, _++_}
 use Prim.Native.Nat.{ℕ, _+_, _/_, _%_, _^_}
 use native.Mathlib.Omega.{arith}
@@ -34,6 +34,17 @@ use Rattle.theorems_reached.specs.Reached.{Loaded, Reached}
 use Rattle.theorems_reached.proofs.Loads.{at-least}
 use Rattle.theorems_reached.proofs.Corollaries.{live-outside-fault}
 use Rattle.theorems_demands.specs.Stalled.{slack, trippedBy7}
+
+-- flags without 7 add none
+pub no-7 : (s : List ℕ) (flags more : ℕ) → bit 7 more ≡ false → bit 7 (alive s (flags or more)) ≡ bit 7 (alive s flags)
+no-7 s flags more none =
+    ap (bit 7) (live-each alwaysLive (FaultEnable s) flags more)
+    ∙ bit-or 7 (alive s flags) (alive s more)
+    ∙ rw (bit-and 7 more (alwaysLive or FaultEnable s), none) (or-false (bit 7 (alive s flags)))
+  where
+    or-false : (a : Bool) → (a || false) ≡ a
+    or-false true = refl
+    or-false false = refl
 
 -- ---- the causes of a tick: 7, and the others
 
@@ -76,6 +87,17 @@ module _ (d : Drive) (t : Tick) where
       ∙ live-each alwaysLive (FaultEnable s) (d .flags or others) (flag 7 lock)
       ∙ ap (λ (word : ℕ). alive s (d .flags or others) or word)
       (live-flag alwaysLive (FaultEnable s) 7 lock ∙ ap (λ (on : Bool). flag 7 (lock && on)) mask-7)
+
+  -- it shows 7 where that was shown before, or stands now
+  pub raises-7 : bit 7 (alive s (raised d t)) ≡ (bit 7 (alive s (d .flags)) || lock && bit 7 (FaultEnable s))
+  raises-7 =
+      ap (bit 7) live-parted
+      ∙ bit-or 7 (alive s (d .flags or others)) (flag 7 (lock && bit 7 (FaultEnable s)))
+      ∙ rw (no-7 s (d .flags) others not-among, own (lock && bit 7 (FaultEnable s)))
+    where
+      own : (set : Bool) → bit 7 (flag 7 set) ≡ set
+      own true = refl
+      own false = refl
 
 -- ---- a tick that is taken in MOTORRUN
 
@@ -140,21 +162,8 @@ module _ (d : Drive) (running : T (is 4 (d .state))) where
         let none = live-outside-fault d r (rw (named 4 (d .state) running) tt) (rw (named 4 (d .state) running) tt) in
         omega (arith, none, eqb-yes {a = alive settings (d .flags) / 2 ^ 7 % 2} {b = 1} lit)))
 
-    dark-but-7 : bit 7 (alive settings (d .flags or others d t)) ≡ false
-    dark-but-7 =
-        ap (bit 7) (live-each alwaysLive (FaultEnable settings) (d .flags) (others d t))
-        ∙ bit-or 7 (alive settings (d .flags)) (alive settings (others d t))
-        ∙ rw (was-dark, bit-and 7 (others d t) (alwaysLive or FaultEnable settings), not-among d t)
-
     pub shows-7 : bit 7 (alive settings (raised d t)) ≡ (lock d t && bit 7 (FaultEnable settings))
-    shows-7 =
-        ap (bit 7) (live-parted d t)
-        ∙ bit-or 7 (alive settings (d .flags or others d t)) (flag 7 (lock d t && bit 7 (FaultEnable settings)))
-        ∙ rw dark-but-7 (own (lock d t && bit 7 (FaultEnable settings)))
-      where
-        own : (set : Bool) → bit 7 (flag 7 set) ≡ set
-        own true = refl
-        own false = refl
+    shows-7 = rw was-dark at (raises-7 d t)
 
   -- ---- the same tick without torque
 

@@ -226,7 +226,7 @@ settled-shows v next left =
     settles (λ (a : Reply). a .answer .live ≡ liveWord (a .drive)) v next left (λ none. refl) (λ given. refl)
 
 -- each answer shows the live word of the state that its call leaves
-answer-shows : (d : Drive) (call : Call) → reply d call .answer .live ≡ liveWord (reply d call .drive)
+pub answer-shows : (d : Drive) (call : Call) → reply d call .answer .live ≡ liveWord (reply d call .drive)
 unfolding Calls.load Calls.cycle TickCalls.tick Blocks.blockLoad answer
 answer-shows d (loads numbers) = settled-shows (verdict (loadRows d numbers)) (loaded (meant numbers)) d
 answer-shows d (cycles c) = settled-shows (verdict (cycleRows d c)) (cycled d c) d

@@ -108,7 +108,7 @@ module _ (d : Drive) (past : Log) (knows : Remembers d (memoryOf words past)) (c
     abbrev now : ℕ
     now = cond (is 4 (d .state) && locked (d .settings) t) (suc (stalledFor past)) 0
 
-    pub log-now : oneMore numbers (eqb (memoryOf words past .shown) 4) (tick t) (stalledFor past) ≡ now
+    log-now : oneMore numbers (eqb (memoryOf words past .shown) 4) (tick t) (stalledFor past) ≡ now
     log-now = rw (knows .shown, held-alike)
 
     abbrev next : Move → Drive

@@ -13,6 +13,7 @@ pub mod Refused
 pub mod FlagTwelve
 pub mod Held
 pub mod FlagSeven
+pub mod FlagSevenShown
 pub mod Stalled
 pub mod StalledRow
 pub mod Computes

@@ -2,7 +2,7 @@
 use mathlib.Core.Path.{_≡_, refl, sym, ap}
 use mathlib.Core.Bool.{Bool, true, false, not, _&&_, cond}
 use mathlib.Core.List.{List, [], _∷_, _++_}
-use Prim.Native.Nat.{ℕ, suc, _+_, _*_}
+use Prim.Native.Nat.{ℕ, _+_}
 use native.Mathlib.Omega.{arith}
 use lib.Dec.{T, eqb, ltb}
 use lib.IntN.{natAbs}
@@ -12,9 +12,8 @@ use Rattle.faults.specs.Word.{bit, flag, _or_}
 use Rattle.faults.proofs.Bits.{new-bit}
 use Rattle.states.specs.States.{is}
 use Rattle.states.proofs.Every.{at-every}
-use Rattle.settings.specs.Settings.{FaultEnable, RotorLockTime}
+use Rattle.settings.specs.Settings.{FaultEnable}
 use Rattle.fields.specs.declared.Tick.{Tick}
-use Rattle.motor.specs.Counts.{watched, locked}
 use Rattle.verdicts.specs.Table.{Row, row, verdict}
 use Rattle.verdicts.specs.declared.Verdict.{Verdict}
 use Rattle.verdicts.proofs.Passed.{Passed, passed, none-holds}
@@ -34,13 +33,13 @@ use Rattle.theorems_history.specs.Onlooker.{memoryOf}
 use Rattle.theorems_reached.specs.Machine.{machine}
 use Rattle.theorems_reached.specs.Reached.{Reached}
 use Rattle.theorems_reached.proofs.Keeps.{every-reached}
-use Rattle.theorems_reached.proofs.Loads.{at-least}
 use Rattle.onlooker.specs.Words.{words, enabled, lowOf}
 use Rattle.theorems_demands.specs.Stalled.{Log, inMotorRun, numbersOf, stalledFor, slack, answered, trippedBy7}
 use Rattle.theorems_demands.specs.Stalled.{long, FlagSevenIsExact}
 use Rattle.theorems_demands.proofs.Remembers.{Remembers}
 use Rattle.theorems_demands.proofs.Lawful.{remembered}
-use Rattle.theorems_demands.proofs.Held.{full-alike, all-counted, log-now}
+use Rattle.theorems_demands.proofs.Held.{all-counted}
+use Rattle.theorems_demands.proofs.FlagSevenShown.{lock-alike, enabled-alike}
 use Rattle.theorems_demands.proofs.FlagSeven as seven
 
 either-first : (a b : Bool) → (a && b) ≡ (b && a)
@@ -118,27 +117,20 @@ module _ (earlier : List Call) (t : Tick) (runs : T (inMotorRun (log machine ear
 
   -- ---- what the log tells, and what the drive counts
 
-  -- the row with this tick
-  row-now : stalledFor (log machine (ticks t ∷ earlier)) ≡ cond (is 4 (d .state) && locked (d .settings) t) (suc (stalledFor past)) 0
-  unfolding log stalledFor
-  row-now = rw taken (log-now d past knows (all-counted earlier) t outside)
-
   long-enough : long earlier t ≡ seven.lock d t
-  unfolding watched
+  unfolding log stalledFor
   long-enough =
-      rw (row-now, knows .loaded outside .setting 6 (omega arith), is-true (is 4 (d .state)) running, all-counted earlier running)
-      (sym
-      (full-alike (locked (d .settings) t) (stalledFor past) (10 * RotorLockTime (d .settings))
-      (omega (arith, at-least (r .settings outside) 6 (omega arith)))))
+      let here : inMotorRun past ≡ true = is-true (inMotorRun past) runs in
+      rw (taken, here) (sym (rw here at (lock-alike d r past knows (all-counted earlier) t outside)))
 
-  enabled-alike : enabled 7 numbers ≡ bit 7 (FaultEnable (d .settings))
-  enabled-alike = rw (knows .loaded outside .setting 1 (omega arith))
+  on : enabled 7 numbers ≡ bit 7 (FaultEnable (d .settings))
+  on = enabled-alike d r past knows (all-counted earlier) t outside
 
   low-alike : lowOf numbers t ≡ low (d .settings) t
   low-alike = rw (knows .loaded outside .setting 0 (omega arith), knows .loaded outside .setting 21 (omega arith))
 
   set-alike : (enabled 7 numbers && long earlier t) ≡ (seven.lock d t && bit 7 (FaultEnable (d .settings)))
-  set-alike = rw (enabled-alike, long-enough) (either-first (bit 7 (FaultEnable (d .settings))) (seven.lock d t))
+  set-alike = rw (on, long-enough) (either-first (bit 7 (FaultEnable (d .settings))) (seven.lock d t))
 
   -- ---- the tick's answer
 

@@ -1,10 +1,10 @@
 -- Wrong drives about a stalled pump: each is this drive but for one thing, in its replies, its state and its account of itself alike. What
--- `FlagSeven` says of live word and state, asked of calls and answers alone, tells each at the last tick of a run that is written out; and
--- of this drive each of the runs ends with a tick that is taken in MOTORRUN, as it says. antt computes each verdict.
+-- specs/Stalled.antt says of live word and state, asked of calls and answers alone, tells each at the last call of a run that is written
+-- out, and this drive passes every run. antt computes each verdict.
 use mathlib.Core.Path.{_≡_, refl}
-use mathlib.Core.Bool.{Bool, true, false, not, _&&_, cond, Bool·beq}
+use mathlib.Core.Bool.{Bool, true, false, not, _&&_, _||_, cond, Bool·beq}
 use mathlib.Core.List.{List, [], _∷_, _++_, reverse}
-use Prim.Native.Nat.{ℕ, _+_}
+use Prim.Native.Nat.{ℕ, _+_, _^_}
 use lib.Dec.{eqb, ltb, leb}
 use lib.IntN.{ℤ, pos, negsuc, natAbs}
 use lib.Signed.{ltZ}
@@ -24,9 +24,9 @@ use Rattle.theorems_history.specs.Log.{log}
 use Rattle.theorems_history.specs.Onlooker.{heard, isTick}
 use Rattle.theorems_history.proofs.Judges.{judges}
 use Rattle.theorems_reached.specs.Machine.{machine, machineOf}
-use Rattle.onlooker.specs.Words.{words, enabled}
-use Rattle.theorems_demands.specs.NamedCalls.{shows, high, times, ready, started}
-use Rattle.theorems_demands.specs.Stalled.{Log, numbersOf, inMotorRun, stalledFor, lockTicks, slack}
+use Rattle.onlooker.specs.Words.{words}
+use Rattle.theorems_demands.specs.NamedCalls.{shows, high, clear, times, ready, started}
+use Rattle.theorems_demands.specs.Stalled.{Log, inMotorRun, stalledFor, shows7, slack}
 use Rattle.theorems_demands.proofs.Computes.{computes}
 use Rattle.theorems_demands.proofs.WrongDrives.{Replies, Row}
 
@@ -101,6 +101,12 @@ isTickWith test (cycles fields) = false
 isTickWith test (ticks fields) = test fields
 isTickWith test (blockLoads image block) = false
 
+-- one more is counted, and the tenth trips
+abbrev countsAndTrips : Drive → Drive → Drive
+countsAndTrips before d =
+    let count : ℕ = before .run .«rotor_lock_ticks» + 1 in
+    cond (leb 10 count) (with Fault (2 ^ 7) count d) (with (d .state) (d .flags) count d)
+
 -- a call that is refused
 abbrev isRefused : Drive → Call → Reply → Bool
 isRefused d call r = not (eqb (r .answer .number) 0)
@@ -111,26 +117,28 @@ sets d call r = not (bit 7 (d .flags)) && bit 7 (r .drive .flags)
 
 -- ---- the runs
 
--- a load with RotorLockTime 1, this FaultEnable, MotorLim and MinSpd; a start that comes to MOTORRUN with its last tick
-abbrev cold : (mask limit least : ℕ) → List Call
-cold mask limit least =
-    ready
-    (loads
+-- a load with RotorLockTime 1, this FaultEnable, MotorLim and MinSpd
+abbrev coldLoad : (mask limit least : ℕ) → Call
+coldLoad mask limit least =
+    loads
     (0 ∷ mask ∷ 3000 ∷ 1000 ∷ 3500 ∷ 3500 ∷ 1 ∷ 800 ∷ 100 ∷ 0 ∷ least ∷ 64 ∷
-    limit ∷ 7 ∷ 3 ∷ 0 ∷ 300 ∷ 0 ∷ 0 ∷ 0 ∷ 400 ∷ 300 ∷ 4096 ∷ 2 ∷ []))
-    ++ started 4
+    limit ∷ 7 ∷ 3 ∷ 0 ∷ 300 ∷ 0 ∷ 0 ∷ 0 ∷ 400 ∷ 300 ∷ 4096 ∷ 2 ∷ [])
+
+-- a start with it, one tick short of MOTORRUN; and in MOTORRUN
+abbrev cold : (mask limit least : ℕ) → List Call
+cold mask limit least = ready (coldLoad mask limit least) ++ started 4
 
 abbrev running : List Call
 running = cold 65535 4095 600 ++ (high ∷ [])
 
--- a tick with this torque and speed, the command high; a control of 4096 is refused
-abbrev tickAt : ℕ → ℤ → ℤ → Call
-tickAt control torque speed =
+-- a tick with this command, control, torque and speed; a control of 4096 is refused
+abbrev tickWith : ℕ → ℕ → ℤ → ℤ → Call
+tickWith command control torque speed =
     ticks
     (record {
       «gate_kill» = 0;
       clear = 0;
-      command = 1;
+      command = command;
       control = control;
       «vdc_raw» = 2623;
       «vdc_filt» = 2623;
@@ -141,11 +149,17 @@ tickAt control torque speed =
       target = pos 700;
     })
 
+abbrev tickAt : ℤ → ℤ → Call
+tickAt = tickWith 1 400
+
 abbrev held : Call
-held = tickAt 400 (pos 4095) (pos 0)
+held = tickAt (pos 4095) (pos 0)
 
 abbrev refused : Call
-refused = tickAt 4096 (pos 4095) (pos 0)
+refused = tickWith 1 4096 (pos 4095) (pos 0)
+
+abbrev heldInStop : Call
+heldInStop = tickWith 0 400 (pos 4095) (pos 0)
 
 abbrev rows : List Row
 rows =
@@ -154,13 +168,13 @@ rows =
     (overlooks (λ d t. ltb 4095 (MinSpd (d .settings))), cold 65535 4095 5000 ++ (high ∷ times 10 held)) ∷
     -- speed 0 outside; 4095 outside; 4096 inside
     (overlooks (λ d t. eqb (natAbs (t .speed)) 0), running ++ times 10 held) ∷
-    (overlooks (λ d t. eqb (natAbs (t .speed)) 4095), running ++ times 10 (tickAt 400 (pos 4095) (pos 4095))) ∷ (
+    (overlooks (λ d t. eqb (natAbs (t .speed)) 4095), running ++ times 10 (tickAt (pos 4095) (pos 4095))) ∷ (
       misread (λ d t. cond (eqb (natAbs (t .speed)) 4096) (atSpeed (pos 0) t) t),
-      running ++ times 10 (tickAt 400 (pos 4095) (pos 4096)),
+      running ++ times 10 (tickAt (pos 4095) (pos 4096)),
     ) ∷
     -- a speed or a torque judged with its sign; a torque that must be above MotorLim
-    (overlooks (λ d t. ltZ (t .speed) (pos 0)), running ++ times 10 (tickAt 400 (pos 4095) (negsuc 599))) ∷
-    (overlooks (λ d t. ltZ (t .«trq_ref») (pos 0)), running ++ times 10 (tickAt 400 (negsuc 4094) (pos 0))) ∷
+    (overlooks (λ d t. ltZ (t .speed) (pos 0)), running ++ times 10 (tickAt (pos 4095) (negsuc 599))) ∷
+    (overlooks (λ d t. ltZ (t .«trq_ref») (pos 0)), running ++ times 10 (tickAt (negsuc 4094) (pos 0))) ∷
     (overlooks (λ d t. leb (natAbs (t .«trq_ref»)) (MotorLim (d .settings))), running ++ times 10 held) ∷
     -- counted in any state: the tick that enters MOTORRUN is one of the ten
     (changed (λ d call r. not (is 4 (d .state)) && is 4 (r .drive .state)) (recounted (λ n. 1)), cold 65535 4095 600 ++ times 10 held) ∷
@@ -180,30 +194,56 @@ rows =
     (changed sets (put Fault true), cold 65407 4095 600 ++ (high ∷ times 10 held)) ∷
     []
 
--- ---- what a log says of its newest entry, a tick that was taken in MOTORRUN
+-- flag 7 elsewhere: the last call is no tick that is taken in MOTORRUN
+abbrev elsewhere : List Row
+elsewhere =
+    -- counted in STOP, and tripped by there
+    (
+      changed (λ d call r. is 1 (d .state) && isTickWith (λ t. leb 4095 (natAbs (t .«trq_ref»))) call) countsAndTrips,
+      ready (coldLoad 65535 4095 600) ++ times 10 heldInStop,
+    ) ∷
+    -- left by a clear; gone with a tick in FAULT, or with a cycle
+    (
+      changed (λ d call r. is 5 (d .state) && is 1 (r .drive .state)) (λ before d. with Stop (2 ^ 7) 0 d),
+      running ++ times 10 held ++ (clear ∷ []),
+    ) ∷
+    (changed (λ d call r. is 5 (d .state) && is 5 (r .drive .state)) (put Fault false), running ++ times 11 held) ∷
+    (changed (λ d call r. isCycle call) (λ before d. with (d .state) 0 0 d), running ++ times 10 held ++ (shows 1 ∷ [])) ∷
+    []
 
-abbrev reported : Log → Bool
-reported [] = false
-reported (e ∷ past) =
-    let s : List ℕ = numbersOf past in
-    let live : ℕ = e .answer .live in
-    Bool·beq (bit 7 live) (enabled 7 s && leb (lockTicks s) (stalledFor (e ∷ past)))
-    && eqb (e .answer .state) (cond (eqb live 0) 4 5)
+-- ---- what a log says of its newest entry
 
 abbrev takenInMotorRun : Log → Bool
 takenInMotorRun [] = false
 takenInMotorRun (e ∷ past) = inMotorRun past && isTick words (heard words e)
 
+-- `FlagSevenIsShown`, and `moves` of `FlagSeven`: no run holds a low in MOTORRUN
+abbrev reported : Log → Bool
+reported [] = false
+reported (e ∷ past) =
+    Bool·beq (bit 7 (e .answer .live)) (shows7 (e ∷ past))
+    && (not (takenInMotorRun (e ∷ past)) || eqb (e .answer .state) (cond (eqb (e .answer .live) 0) 4 5))
+
 abbrev each : (Row → Bool) → List Row → Bool
 each test [] = true
 each test (row ∷ rest) = test row && each test rest
 
-pub each-is-told :
-    each (λ row. let past : Log = log (machineOf (row .0)) (reverse (row .1)) in takenInMotorRun past && not (reported past)) rows ≡ true
-unfolding judges computes stalledFor
+-- the log of a row's calls: of its wrong drive, and of this one
+abbrev wrongly : Row → Log
+wrongly row = log (machineOf (row .0)) (reverse (row .1))
+
+abbrev rightly : Row → Log
+rightly row = log machine (reverse (row .1))
+
+pub each-is-told : each (λ row. not (reported (wrongly row))) (rows ++ elsewhere) ≡ true
+unfolding judges computes stalledFor shows7
 each-is-told = refl
 
-pub this-drive-passes :
-    each (λ row. let past : Log = log machine (reverse (row .1)) in takenInMotorRun past && reported past) rows ≡ true
-unfolding judges computes stalledFor
+pub this-drive-passes : each (λ row. reported (rightly row)) (rows ++ elsewhere) ≡ true
+unfolding judges computes stalledFor shows7
 this-drive-passes = refl
+
+-- so there are such ticks: each of the runs above ends with one
+pub there-are-such : each (λ row. takenInMotorRun (rightly row) && takenInMotorRun (wrongly row)) rows ≡ true
+unfolding judges computes stalledFor
+there-are-such = refl

@@ -1,10 +1,11 @@
--- Document 02, M-103, of calls and answers: "A stalled pump that no one reports. With cold polymer the shaft stands, speed reads about zero,
--- and bit 7 stays quiet because 01 starts its speed range at MinSpd. Document 004 does too, but the house rule now differs: the range is
--- every absolute speed up to 4095." Whoever reads a log can count for how many ticks a shaft has been held; the answers say the same.
--- Settings are the numbers of the last accepted load and the state is the one that the last answer showed, both as the onlooker of demand 3
--- remembers them. One thing is read off the drive's state: a masked flag 7, which no answer shows.
+-- Document 02, M-103, of calls and answers: "A stalled pump that no one reports. With cold polymer the shaft stands, speed reads about
+-- zero, and bit 7 stays quiet because 01 starts its speed range at MinSpd. Document 004 does too, but the house rule now differs: the
+-- range is every absolute speed up to 4095." Whoever reads a log can count for how many ticks in a row a shaft was held, and tell from it
+-- when flag 7 stands; the answers say the same. Settings are the numbers of the last accepted load, and the state is the one that the last
+-- answer showed, as the onlooker of demand 3 remembers them. One thing is read off the drive's state: flag 7 where it is masked, which no
+-- answer shows.
 use Prim.Native.Nat.{ℕ, suc, _+_, _*_, _^_}
-use mathlib.Core.Bool.{Bool, _&&_, cond}
+use mathlib.Core.Bool.{Bool, false, not, _&&_, _||_, cond}
 use mathlib.Core.Path.{_≡_}
 use mathlib.Core.List.{List, [], _∷_, _++_}
 use lib.Dec.{T, eqb, leb}
@@ -12,7 +13,7 @@ use lib.IntN.{pos, natAbs}
 use Rattle.faults.specs.Word.{bit}
 use Rattle.fields.specs.declared.Tick.{Tick}
 use Rattle.theorems_history.specs.Log.{Entry, stateAfter, log}
-use Rattle.theorems_history.specs.Onlooker.{Asked, load, tick, neither, heard, isTick, memoryOf}
+use Rattle.theorems_history.specs.Onlooker.{Asked, load, tick, neither, heard, isLoad, isTick, memoryOf}
 use Rattle.drive.specs.AnyCall.{Call, loads, cycles, ticks, blockLoads}
 use Rattle.drive.specs.declared.answer.Answer.{Answer}
 use Rattle.theorems_reached.specs.Machine.{machine}
@@ -46,6 +47,32 @@ stalledFor (e ∷ past) = oneMore (numbersOf past) (inMotorRun past) (heard word
 -- "for 10 x RotorLockTime consecutive ticks", setting 7
 abbrev pub lockTicks : List ℕ → ℕ
 lockTicks s = 10 * setting 7 s
+
+-- ---- flag 7 after any call: where it is set, and that it stays
+
+-- a tick that is taken in MOTORRUN makes the row long enough, and "its FaultEnable bit is 1"
+abbrev pub sets7 : Entry Call Answer → Log → Bool
+sets7 e past =
+    isTick words (heard words e)
+    && inMotorRun past
+    && leb (lockTicks (numbersOf past)) (stalledFor (e ∷ past))
+    && enabled 7 (numbersOf past)
+
+-- "which stay until cleared": by an accepted load, and where FAULT is left
+abbrev pub clears : Entry Call Answer → Log → Bool
+clears e past = isLoad words (heard words e) || eqb (memoryOf words past .shown) 5 && not (eqb (e .answer .state) 5)
+
+unfoldable pub shows7 : Log → Bool
+shows7 [] = false
+shows7 (e ∷ past) = not (clears e past) && (shows7 past || sets7 e past)
+
+-- after any sequence of calls from power-up and one more, whichever it is
+abbrev pub FlagSevenIsShown : Type 0
+FlagSevenIsShown =
+    (call : Call) (earlier : List Call)
+    → bit 7 (machine .answer (stateAfter machine earlier) call .live) ≡ shows7 (log machine (call ∷ earlier))
+
+-- ---- a tick that is taken in MOTORRUN, exactly
 
 -- the same tick without torque: it is held by nothing, for MotorLim is at least 1
 abbrev pub slack : Tick → Tick
@@ -83,8 +110,6 @@ trippedBy7 a =
       offsets = a .offsets;
       retries = a .retries;
     }
-
--- ---- flag 7, exactly: an accepted tick that is taken in MOTORRUN, after any sequence of calls from power-up
 
 module _ (earlier : List Call) (t : Tick) where
   abbrev loaded : List ℕ
