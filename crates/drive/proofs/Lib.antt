@@ -1,5 +1,6 @@
 -- What the proofs of the crates above cite.
 pub mod Settles
+pub mod EachCall
 pub mod Loads
 pub mod BlockLoads
 pub mod Gates

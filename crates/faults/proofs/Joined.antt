@@ -1,6 +1,7 @@
 -- Words of flags as wholes: two with the same bits are one; flags are joined in any order; of one flag that flag is live or nothing.
 use mathlib.Core.Path.{_≡_, refl, sym, subst, ap, _∙_}
-use mathlib.Core.Bool.{Bool, true, false, _&&_, _||_, cond}
+use mathlib.Core.Bool
+use mathlib.Core.Bool.{Bool, true, false, _&&_, _||_, cond, or-comm, and-or-distrib-right}
 use mathlib.Core.List.{List, [], _∷_, _++_}
 use Prim.Native.Nat.{ℕ, _+_, _*_, _/_, _%_, _^_, _<_}
 use native.Mathlib.Nat.{div-one, div-self, mod-self, div-add-mod'}
@@ -36,22 +37,7 @@ same-bits =
 -- ---- in any order
 
 or-either : (a b c : Bool) → (a || b || c) ≡ (a || c || b)
-or-either true b c = refl
-or-either false true true = refl
-or-either false true false = refl
-or-either false false true = refl
-or-either false false false = refl
-
-or-grouped : (a b c : Bool) → (a || (b || c)) ≡ (a || b || c)
-or-grouped true b c = refl
-or-grouped false b c = refl
-
-and-each : (a b m : Bool) → ((a || b) && m) ≡ (a && m || b && m)
-and-each true true true = refl
-and-each true true false = refl
-and-each true false true = refl
-and-each true false false = refl
-and-each false b m = refl
+or-either a b c = Bool.or-assoc a b c ∙ ap (λ (other : Bool). a || other) (or-comm b c) ∙ sym (Bool.or-assoc a c b)
 
 or-swap : (f g h : ℕ) → (f or g or h) ≡ (f or h or g)
 or-swap f g h =
@@ -61,7 +47,7 @@ or-swap f g h =
 pub or-assoc : (f g h : ℕ) → (f or (g or h)) ≡ (f or g or h)
 or-assoc f g h =
     same-bits (f or (g or h)) (f or g or h)
-    (λ k. rw (bit-or k f (g or h), bit-or k g h, bit-or k (f or g) h, bit-or k f g) (or-grouped (bit k f) (bit k g) (bit k h)))
+    (λ k. rw (bit-or k f (g or h), bit-or k g h, bit-or k (f or g) h, bit-or k f g) (sym (Bool.or-assoc (bit k f) (bit k g) (bit k h))))
 
 -- the first of several flags may as well be the last
 first-last :
@@ -115,7 +101,7 @@ module _ (always mask : ℕ) where
         bit-and k f enabled,
         bit-and k g enabled,
       )
-      (and-each (bit k f) (bit k g) (bit k enabled)))
+      (and-or-distrib-right (bit k f) (bit k g) (bit k enabled)))
 
   pub live-flag : (k : ℕ) (set : Bool) → live always mask (flag k set) ≡ flag k (set && bit k (always or mask))
   live-flag k true = one-bit k (always or mask)

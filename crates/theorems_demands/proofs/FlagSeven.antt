@@ -1,6 +1,6 @@
 -- A tick that is taken in MOTORRUN, with and without its torque: flag 7 is all the difference that the torque makes.
 use mathlib.Core.Path.{_≡_, refl, sym, ap, _∙_}
-use mathlib.Core.Bool.{Bool, true, false, _&&_, _||_, cond}
+use mathlib.Core.Bool.{Bool, true, false, _&&_, _||_, cond, or-false}
 use mathlib.Core.List.{List, [], _∷_, _++_}
 use Prim.Native.Nat.{ℕ, _+_, _/_, _%_, _^_}
 use native.Mathlib.Omega.{arith}
@@ -41,10 +41,6 @@ no-7 s flags more none =
     ap (bit 7) (live-each alwaysLive (FaultEnable s) flags more)
     ∙ bit-or 7 (alive s flags) (alive s more)
     ∙ rw (bit-and 7 more (alwaysLive or FaultEnable s), none) (or-false (bit 7 (alive s flags)))
-  where
-    or-false : (a : Bool) → (a || false) ≡ a
-    or-false true = refl
-    or-false false = refl
 
 -- ---- the causes of a tick: 7, and the others
 

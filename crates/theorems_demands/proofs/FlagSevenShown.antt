@@ -1,13 +1,13 @@
 -- Flag 7 stands in the live word of an answer just where the log of calls and answers says so, whichever call it is and in every state.
 use mathlib.Core.Path.{_≡_, refl, sym, ap, subst, _∙_}
-use mathlib.Core.Bool.{Bool, true, false, not, _&&_, _||_, cond}
+use mathlib.Core.Bool.{Bool, true, false, not, _&&_, cond, or-false}
 use mathlib.Core.List.{List, [], _∷_}
 use Prim.Native.Nat.{ℕ, suc, _<_, min}
 use native.Mathlib.Omega.{arith}
 use lib.Bits.{and-zero-l}
 use lib.Dec.{T, eqb, leb}
 use lib.Ieee.Bits.{is-true, is-false}
-use Rattle.numbers.proofs.Tests.{by-test, fails-left}
+use Rattle.numbers.proofs.Tests.{fails-left}
 use Rattle.faults.specs.Word.{bit, flag, _or_}
 use Rattle.states.specs.States.{is, turning}
 use Rattle.states.specs.declared.State.{State}
@@ -23,18 +23,12 @@ use Rattle.moves.proofs.Ways.{Way, trips, stops, goes-on, calibrates, starts, m
 use Rattle.moves.proofs.Ways.{goes}
 use Rattle.drive.specs.Flags.{alwaysLive, alive}
 use Rattle.drive.specs.Answer.{liveWord, answer}
-use Rattle.verdicts.specs.Table.{verdict}
 use Rattle.verdicts.proofs.Passed.{passed}
-use Rattle.images.specs.Image.{fifteen}
-use Rattle.images.specs.Reads.{isRead}
-use Rattle.drive.specs.Refusals.{loadRows, cycleRows, tickRows}
+use Rattle.drive.specs.Refusals.{tickRows}
 use Rattle.drive.specs.Calls.{loaded, sample, cycled}
-use Rattle.drive.specs.Calls
-use Rattle.drive.specs.Blocks.{blockNumbers, blockRows, marked, leftByBlock}
-use Rattle.drive.specs.Blocks
-use Rattle.drive.specs.Ticks as TickCalls
+use Rattle.drive.specs.Blocks.{blockNumbers, marked}
 use Rattle.drive.specs.declared.answer.Reply.{Reply}
-use Rattle.drive.proofs.Settles.{settles}
+use Rattle.drive.proofs.EachCall.{each-call}
 use Rattle.drive.specs.Ticks.{watch, standing, raised, armedBy, nth, grounds, moved, ticked}
 use Rattle.drive.specs.declared.Drive.{Drive}
 use Rattle.drive.specs.AnyCall.{Call, loads, cycles, ticks, blockLoads, reply}
@@ -48,9 +42,9 @@ use Rattle.onlooker.specs.Words.{words, asked, enabled}
 use Rattle.theorems_demands.specs.Stalled.{Log, numbersOf, inMotorRun, oneMore, stalledFor, lockTicks, shows7, FlagSevenIsShown}
 use Rattle.theorems_demands.proofs.Remembers.{Remembers}
 use Rattle.theorems_demands.proofs.Lawful.{remembered}
-use Rattle.theorems_demands.proofs.FlagTwelve.{answer-shows}
+use Rattle.theorems_demands.proofs.Shown.{made, answer-shows}
 use Rattle.theorems_demands.proofs.Tests.{never-both}
-use Rattle.theorems_demands.proofs.Held.{made, Counted, needed, full-alike, held-alike, all-counted}
+use Rattle.theorems_demands.proofs.Held.{Counted, needed, full-alike, held-alike, all-counted}
 use Rattle.theorems_demands.proofs.FlagSeven as seven
 
 -- cause 7, and the row of the log
@@ -61,10 +55,6 @@ alike :
     → (running && lasts limit holds count) ≡ (running && leb limit (cond (running && holds) (suc k) 0))
 alike true holds k limit count some same = rw (same tt) (full-alike holds k limit some)
 alike false holds k limit count some same = refl
-
-or-false : (a : Bool) → (a || false) ≡ a
-or-false true = refl
-or-false false = refl
 
 -- of a refused call he hears nothing
 unheard-refusal :
@@ -191,19 +181,13 @@ module _ (d : Drive) (r : Reached d) (past : Log) (knows : Remembers d (memoryOf
     refused call number at given = passes call d number at refl (unheard-refusal call number at d given) refl
 
     -- a refused block load may set flag 12
-    block-refused :
-        (image : List ℕ) (block number at : ℕ)
+    refused-marked :
+        (call : Call) (number at : ℕ)
         → eqb number 0 ≡ false
-        → (let left : Drive = leftByBlock d image block in
-        bit 7 (liveWord left) ≡ shows7 (made (blockLoads image block) (answer number at left) ∷ past))
-    block-refused image block number at given =
-        let call : Call = blockLoads image block in
-        by-test (λ (left : Drive). bit 7 (liveWord left) ≡ shows7 (made call (answer number at left) ∷ past))
-        (isRead fifteen image block && is 0 (d .state))
-        (λ idle.
+        → bit 7 (liveWord (marked d)) ≡ shows7 (made call (answer number at (marked d)) ∷ past)
+    refused-marked call number at given =
         passes call (marked d) number at refl (unheard-refusal call number at (marked d) given)
-        (seven.no-7 (d .settings) (d .flags) (flag 12 true) refl))
-        (λ other. refused call number at given)
+        (seven.no-7 (d .settings) (d .flags) (flag 12 true) refl)
 
     -- and a cycle flag 15
     cycle-shown : (c : Cycle) → bit 7 (liveWord (cycled d c)) ≡ shows7 (made (cycles c) (answer 0 0 (cycled d c)) ∷ past)
@@ -217,35 +201,16 @@ module _ (d : Drive) (r : Reached d) (past : Log) (knows : Remembers d (memoryOf
         only-15 false = refl
 
     after-call : (call : Call) → bit 7 (liveWord (reply d call .drive)) ≡ shows7 (made call (reply d call .answer) ∷ past)
-    unfolding Calls.load Calls.cycle TickCalls.tick Blocks.blockLoad
-    after-call (loads given) =
-        settles (λ (a : Reply). bit 7 (liveWord (a .drive)) ≡ shows7 (made (loads given) (a .answer) ∷ past))
-        (verdict (loadRows d given))
-        _
-        d
-        (λ none. loaded-shown past (loads given) (meant given) tt)
-        (refused (loads given) _ _)
-    after-call (cycles c) =
-        settles (λ (a : Reply). bit 7 (liveWord (a .drive)) ≡ shows7 (made (cycles c) (a .answer) ∷ past))
-        (verdict (cycleRows d c))
-        (cycled d c)
-        d
-        (λ none. cycle-shown c)
-        (refused (cycles c) _ _)
-    after-call (ticks t) =
-        settles (λ (a : Reply). bit 7 (liveWord (a .drive)) ≡ shows7 (made (ticks t) (a .answer) ∷ past))
-        (verdict (tickRows d t))
-        (ticked d t)
-        d
-        (λ none. tick-shown t (passed (tickRows d t) tt none .0) shown)
-        (refused (ticks t) _ _)
-    after-call (blockLoads image block) =
-        settles (λ (a : Reply). bit 7 (liveWord (a .drive)) ≡ shows7 (made (blockLoads image block) (a .answer) ∷ past))
-        (verdict (blockRows d image block))
-        _
-        (leftByBlock d image block)
-        (λ none. loaded-shown past (blockLoads image block) (meant (blockNumbers image block)) tt)
-        (block-refused image block _ _)
+    after-call =
+        each-call d (λ (call : Call) (a : Reply). bit 7 (liveWord (a .drive)) ≡ shows7 (made call (a .answer) ∷ past))
+        (record {
+          loads-it = λ given none. loaded-shown past (loads given) (meant given) tt;
+          loads-a-block = λ image block none. loaded-shown past (blockLoads image block) (meant (blockNumbers image block)) tt;
+          cycles-on = λ c none. cycle-shown c;
+          ticks-on = λ t none. tick-shown t (passed (tickRows d t) tt none .0) shown;
+          refuses = λ call number at dark given. refused call number at given;
+          refuses-marked = λ image block number at lit given. refused-marked (blockLoads image block) number at given;
+        })
 
 -- after every sequence of calls
 all-shown : (calls : List Call) → bit 7 (liveWord (stateAfter machine calls)) ≡ shows7 (log machine calls)

@@ -2,7 +2,7 @@
 use Prim.Native.Nat.{ℕ, _*_}
 use native.Mathlib.Nat.{zero-add}
 use native.Mathlib.Omega.{arith}
-use mathlib.Core.Bool.{Bool, true, false, not, _&&_, cond}
+use mathlib.Core.Bool.{Bool, true, false, not, _&&_, cond, true≢false, and-true, and-false}
 use mathlib.Core.Path.{_≡_, refl, sym, ap, _∙_}
 use mathlib.Core.List.{List, [], _∷_}
 use lib.Dec.{T, eqb, ltb, not-T}
@@ -10,7 +10,7 @@ use lib.IntN.{pos}
 use lib.Ieee.Bits.{is-true, is-false}
 use mir.Facts.{T-not, and-yes}
 use borrow.Author.Tests.{le-leb, lt-leb, ltb-true, ltb-false}
-use Rattle.numbers.proofs.Tests.{by-test, decide}
+use Rattle.numbers.proofs.Tests.{decide}
 use Rattle.faults.specs.Word.{bit, _or_}
 use Rattle.faults.proofs.Bits.{bit-or, bit-and}
 use Rattle.states.specs.States.{is}
@@ -19,31 +19,30 @@ use Rattle.fields.specs.declared.Cycle.{Cycle}
 use Rattle.fields.specs.declared.Tick.{Tick}
 use Rattle.verdicts.specs.Table.{row, verdict}
 use Rattle.numbers.specs.Bytes.{byte}
-use Rattle.verdicts.specs.declared.Verdict.{Verdict}
 use Rattle.verdicts.proofs.Passed.{passed}
 use Rattle.theorems_history.specs.Log.{Entry, stateAfter, log}
 use Rattle.images.specs.Image.{fifteen}
 use Rattle.images.specs.Table.{wellFormed}
 use Rattle.images.specs.Reads.{foundOf, isRead}
 use Rattle.drive.specs.Answer.{liveWord, answer}
-use Rattle.drive.specs.Refusals.{loadRows, cycleRows, tickRows}
+use Rattle.drive.specs.Refusals.{cycleRows, tickRows}
 use Rattle.drive.specs.Flags.{alwaysLive, alive}
-use Rattle.drive.specs.Calls.{settle, loaded, cycled}
-use Rattle.drive.specs.Calls
-use Rattle.drive.specs.Blocks.{blockNumbers, blockRows, marked, leftByBlock}
-use Rattle.drive.specs.Blocks
+use Rattle.drive.specs.Calls.{loaded, cycled}
+use Rattle.drive.specs.Blocks.{blockNumbers, marked}
 use Rattle.drive.specs.Ticks.{ticked}
 use Rattle.drive.specs.Ticks as TickCalls
 use Rattle.drive.specs.AnyCall.{Call, loads, cycles, ticks, blockLoads, reply}
 use Rattle.drive.specs.declared.Drive.{Drive}
 use Rattle.drive.specs.declared.answer.Answer.{Answer}
 use Rattle.drive.specs.declared.answer.Reply.{Reply}
-use Rattle.drive.proofs.Settles.{settles, tick-keeps-settings}
+use Rattle.drive.proofs.EachCall.{marks, each-call}
+use Rattle.drive.proofs.Settles.{tick-keeps-settings}
 use Rattle.theorems_reached.specs.Machine.{machine}
 use Rattle.theorems_reached.specs.Reached.{Reached}
 use Rattle.theorems_reached.proofs.Loads.{at-least}
 use Rattle.theorems_reached.proofs.Keeps.{every-reached, tick-keeps}
 use Rattle.theorems_reached.proofs.Corollaries.{in-idle, no-flag-12-outside-idle}
+use Rattle.theorems_demands.proofs.Shown.{made, answer-shows}
 use Rattle.theorems_demands.specs.FlagTwelve.{isLoad, loads-now, loadedYet, finds, refused-now, lit, FlagTwelve}
 
 abbrev Log : Type 0
@@ -58,21 +57,6 @@ record Told (d : Drive) (log : Log) : Type 0 where
 told-power-up : Told (machine .powerUp) []
 unfolding loadedYet lit
 told-power-up = record { asleep = refl; dark = λ e. refl; shown = λ e. refl }
-
--- a call with its answer
-abbrev made : Call → Answer → Entry Call Answer
-made call answer = record { call = call; answer = answer }
-
-not-both : true ≡ false → ⊥
-not-both same = let z : _≡_ {A = ℕ} 0 1 = cc in omega arith
-
-no-and : (a : Bool) → (a && false) ≡ false
-no-and true = refl
-no-and false = refl
-
-and-yes-and : (a b : Bool) → (a && true && b) ≡ (a && b)
-and-yes-and true b = refl
-and-yes-and false b = refl
 
 -- what the call tells is what the reader says
 finds-read : (image : List ℕ) (block : ℕ) → finds (blockLoads image block) ≡ isRead fifteen image block
@@ -109,14 +93,50 @@ module _ (d : Drive) (r : Reached d) (log : Log) (told : Told d log) where
   -- a load of either kind, accepted
   loads-told : (e : Entry Call Answer) (numbers : List ℕ) → loads-now e ≡ true → Told (loaded numbers) (e ∷ log)
   unfolding loadedYet lit
-  loads-told e numbers now = record { asleep = rw now; dark = λ loaded. rw now; shown = λ asleep. absurd (not-both (rw now at asleep)) }
+  loads-told e numbers now =
+      record { asleep = rw now; dark = λ loaded. rw now; shown = λ asleep. absurd (true≢false (rw now at asleep)) }
 
-  -- a refused call of the three
-  refused : (call : Call) (number at : ℕ) → finds call ≡ false → eqb number 0 ≡ false
+  -- what the log tells of a refusal: flag 12 is lit where the drive sets it
+  noted :
+      (call : Call) (number at : ℕ) (left : Drive)
+      → eqb number 0 ≡ false
+      → refused-now (made call (answer number at left)) log ≡ marks d call
+  unfolding answer
+  noted (loads numbers) number at left given = refl
+  noted (cycles c) number at left given = refl
+  noted (ticks t) number at left given = refl
+  noted (blockLoads image block) number at left given =
+      rw (given, finds-read image block, ← told .asleep)
+      (ap (λ (found : Bool). found && is 0 (d .state)) (and-true (isRead fifteen image block)))
+
+  refused : (call : Call) (number at : ℕ) → T (not (marks d call)) → eqb number 0 ≡ false
       → Told d (made call (answer number at d) ∷ log)
   unfolding answer
-  refused call number at plain given =
-      stays (made call (answer number at d)) d (rw given (no-and (isLoad call))) (rw plain) refl (λ asleep. refl)
+  refused call number at dark given =
+      stays (made call (answer number at d)) d (rw given (and-false (isLoad call)))
+      (noted call number at d given ∙ is-false (marks d call) dark)
+      refl
+      (λ asleep. refl)
+
+  -- in IDLE, with flag 12
+  refused-marked :
+      (image : List ℕ) (block number at : ℕ)
+      → T (marks d (blockLoads image block))
+      → eqb number 0 ≡ false
+      → Told (marked d) (made (blockLoads image block) (answer number at (marked d)) ∷ log)
+  unfolding answer loadedYet lit
+  refused-marked image block number at sets given =
+      let call : Call = blockLoads image block in
+      let idle = and-yes (isRead fifteen image block) (is 0 (d .state)) sets .1 in
+      let here : not (loadedYet log) ≡ true = sym (told .asleep) ∙ is-true (is 0 (d .state)) idle in
+      let now : refused-now (made call (answer number at (marked d))) log ≡ true =
+      noted call number at (marked d) given ∙ is-true (marks d call) sets
+      in
+      record {
+        asleep = rw given (told .asleep);
+        dark = λ loaded. absurd (true≢false (sym here ∙ rw (rw given at loaded)));
+        shown = λ asleep. rw (now, given) (in-idle d r (λ (e : Drive). bit 12 (marked e .flags) ≡ true) refl refl idle);
+      }
 
   -- outside IDLE a load was accepted
   yet : T (not (is 0 (d .state))) → loadedYet log ≡ false → ⊥
@@ -148,54 +168,18 @@ module _ (d : Drive) (r : Reached d) (log : Log) (told : Told d log) where
     tick-told =
         stays _ (ticked d t) refl refl (awake ∙ sym (is-false (is 0 (d .state)) outside)) (λ asleep. absurd (yet outside asleep))
 
-  -- a refused block load: with flag 12 in IDLE, where it finds a body
-  module _ (image : List ℕ) (block : ℕ) (given : eqb (verdict (blockRows d image block) .number) 0 ≡ false) where
-    abbrev entry : (left : Drive) (at : ℕ) → Entry Call Answer
-    entry left at = made (blockLoads image block) (answer (verdict (blockRows d image block) .number) at left)
-
-    noted : (left : Drive) (at : ℕ) → refused-now (entry left at) log ≡ (isRead fifteen image block && is 0 (d .state))
-    unfolding answer
-    noted left at = rw (given, finds-read image block, ← told .asleep) (and-yes-and (isRead fifteen image block) (is 0 (d .state)))
-
-    -- in IDLE, with flag 12
-    with-flag : (at : ℕ) → T (isRead fifteen image block && is 0 (d .state)) → Told (marked d) (entry (marked d) at ∷ log)
-    unfolding answer loadedYet lit
-    with-flag at both =
-        let idle = and-yes (isRead fifteen image block) (is 0 (d .state)) both .1 in
-        let here : not (loadedYet log) ≡ true = sym (told .asleep) ∙ is-true (is 0 (d .state)) idle in
-        let now : refused-now (entry (marked d) at) log ≡ true = noted (marked d) at ∙ is-true _ both in
-        record {
-          asleep = rw given (told .asleep);
-          dark = λ loaded. absurd (not-both (sym here ∙ rw (rw given at loaded)));
-          shown = λ asleep. rw (now, given) (in-idle d r (λ (e : Drive). bit 12 (marked e .flags) ≡ true) refl refl idle);
-        }
-
-    block-refused : (at : ℕ) → (let left : Drive = leftByBlock d image block in Told left (entry left at ∷ log))
-    unfolding answer
-    block-refused at =
-        by-test (λ (left : Drive). Told left (entry left at ∷ log)) (isRead fifteen image block && is 0 (d .state))
-        (with-flag at)
-        (λ none. stays (entry d at) d (rw given) (noted d at ∙ is-false _ none) refl (λ asleep. refl))
-
   after-call : (call : Call) → Told (reply d call .drive) (made call (reply d call .answer) ∷ log)
-  unfolding Calls.load Calls.cycle TickCalls.tick Blocks.blockLoad answer
-  after-call (loads numbers) =
-      settles (λ (a : Reply). Told (a .drive) (made (loads numbers) (a .answer) ∷ log)) (verdict (loadRows d numbers)) _ d
-      (λ none. loads-told _ (meant numbers) refl)
-      (λ given. refused (loads numbers) _ _ refl given)
-  after-call (cycles c) =
-      settles (λ (a : Reply). Told (a .drive) (made (cycles c) (a .answer) ∷ log)) (verdict (cycleRows d c)) (cycled d c) d
-      (λ none. cycle-told c (passed (cycleRows d c) tt none .0))
-      (λ given. refused (cycles c) _ _ refl given)
-  after-call (ticks t) =
-      settles (λ (a : Reply). Told (a .drive) (made (ticks t) (a .answer) ∷ log)) (verdict (tickRows d t)) (ticked d t) d
-      (λ none. tick-told t none (rw none at (tick-keeps d t r)))
-      (λ given. refused (ticks t) _ _ refl given)
-  after-call (blockLoads image block) =
-      settles (λ (a : Reply). Told (a .drive) (made (blockLoads image block) (a .answer) ∷ log)) (verdict (blockRows d image block)) _
-      (leftByBlock d image block)
-      (λ none. loads-told _ (meant (blockNumbers image block)) refl)
-      (λ given. block-refused image block given _)
+  unfolding TickCalls.tick answer
+  after-call =
+      each-call d (λ (call : Call) (a : Reply). Told (a .drive) (made call (a .answer) ∷ log))
+      (record {
+        loads-it = λ numbers none. loads-told _ (meant numbers) refl;
+        loads-a-block = λ image block none. loads-told _ (meant (blockNumbers image block)) refl;
+        cycles-on = λ c none. cycle-told c (passed (cycleRows d c) tt none .0);
+        ticks-on = λ t none. tick-told t none (rw none at (tick-keeps d t r));
+        refuses = refused;
+        refuses-marked = refused-marked;
+      })
 
 -- every sequence of calls
 all-told : (calls : List Call) → Told (stateAfter machine calls) (log machine calls)
@@ -220,20 +204,6 @@ live-shows d r log told =
     opposite true same = ap not same
     opposite false same = ap not same
 
-settled-shows : (v : Verdict) (next left : Drive) → settle v next left .answer .live ≡ liveWord (settle v next left .drive)
-unfolding answer
-settled-shows v next left =
-    settles (λ (a : Reply). a .answer .live ≡ liveWord (a .drive)) v next left (λ none. refl) (λ given. refl)
-
--- each answer shows the live word of the state that its call leaves
-pub answer-shows : (d : Drive) (call : Call) → reply d call .answer .live ≡ liveWord (reply d call .drive)
-unfolding Calls.load Calls.cycle TickCalls.tick Blocks.blockLoad answer
-answer-shows d (loads numbers) = settled-shows (verdict (loadRows d numbers)) (loaded (meant numbers)) d
-answer-shows d (cycles c) = settled-shows (verdict (cycleRows d c)) (cycled d c) d
-answer-shows d (ticks t) = settled-shows (verdict (tickRows d t)) (ticked d t) d
-answer-shows d (blockLoads image block) =
-    settled-shows (verdict (blockRows d image block)) (loaded (meant (blockNumbers image block))) (leftByBlock d image block)
-
 pub flag-twelve : FlagTwelve
 unfolding stateAfter log
 flag-twelve call earlier =
@@ -247,10 +217,6 @@ pub always-live : (settings : List ℕ) (flags : ℕ) → bit 12 (alive settings
 always-live settings flags =
     bit-and 12 flags (alwaysLive or FaultEnable settings)
     ∙ rw (bit-or 12 alwaysLive (FaultEnable settings)) (and-true (bit 12 flags))
-  where
-    and-true : (a : Bool) → (a && true) ≡ a
-    and-true true = refl
-    and-true false = refl
 
 -- Until a load is accepted each answer is, but for number and place, that of power-up, with flag 12 in its live word where it stands.
 pub idle-shows :

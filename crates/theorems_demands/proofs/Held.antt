@@ -7,46 +7,37 @@ use native.Mathlib.Omega.{arith}
 use lib.Dec.{T, eqb, leb}
 use lib.Ieee.Bits.{is-true, is-false}
 use mir.Facts.{not-T, yes-eqb, no-eqb, leb-yes, leb-no}
-use Rattle.numbers.proofs.Tests.{by-test, decide}
+use Rattle.numbers.proofs.Tests.{decide}
 use Rattle.states.specs.States.{is}
 use Rattle.states.specs.declared.State.{State}
 use Rattle.settings.specs.Settings.{RotorLockTime}
 use Rattle.motor.specs.Counts.{watched, locked, lasting, lasts}
 use Rattle.fields.specs.declared.Cycle.{Cycle}
 use Rattle.fields.specs.declared.Tick.{Tick}
-use Rattle.verdicts.specs.Table.{verdict}
 use Rattle.verdicts.proofs.Passed.{passed}
 use Rattle.moves.specs.declared.Grounds.{Grounds}
 use Rattle.moves.specs.declared.Move.{Move}
 use Rattle.moves.specs.declared.Move.the-variants.{Stay, Enter, Measure, Clear, Retry}
 use Rattle.moves.proofs.Ways.{Way, Onward, trips, stops, goes-on, calibrates, starts, way-of}
 use Rattle.moves.proofs.Ways.{charged, unasked, caught, slow, unsensed, sensed, parked, unramped, fast}
-use Rattle.theorems_history.specs.Log.{Entry, stateAfter, log}
+use Rattle.theorems_history.specs.Log.{stateAfter, log}
 use Rattle.theorems_history.specs.Onlooker.{tick, memoryOf}
 use Rattle.drive.specs.Answer.{answer}
-use Rattle.drive.specs.Refusals.{loadRows, cycleRows, tickRows}
+use Rattle.drive.specs.Refusals.{tickRows}
 use Rattle.drive.specs.Calls.{loaded, cycled}
-use Rattle.drive.specs.Calls
-use Rattle.drive.specs.Blocks.{blockRows, marked, leftByBlock}
-use Rattle.drive.specs.Blocks
+use Rattle.drive.specs.Blocks.{marked}
 use Rattle.drive.specs.Ticks.{watch, standing, raised, armedBy, nth, grounds, moved, ticked}
 use Rattle.drive.specs.Ticks as TickCalls
-use Rattle.drive.specs.AnyCall.{Call, loads, cycles, ticks, blockLoads, reply}
+use Rattle.drive.specs.AnyCall.{Call, cycles, ticks, blockLoads, reply}
 use Rattle.drive.specs.declared.Drive.{Drive}
-use Rattle.drive.specs.declared.answer.Answer.{Answer}
 use Rattle.drive.specs.declared.answer.Reply.{Reply}
-use Rattle.drive.proofs.Settles.{settles}
-use Rattle.images.specs.Image.{fifteen}
-use Rattle.images.specs.Reads.{isRead}
+use Rattle.drive.proofs.EachCall.{each-call}
 use Rattle.theorems_reached.specs.Machine.{machine}
 use Rattle.onlooker.specs.Words.{words}
 use Rattle.theorems_demands.specs.Stalled.{Log, stalls, oneMore, stalledFor}
 use Rattle.theorems_demands.proofs.Remembers.{Remembers, flagged}
+use Rattle.theorems_demands.proofs.Shown.{made}
 use Rattle.theorems_demands.proofs.Lawful.{remembered}
-
--- a call with its answer
-abbrev pub made : Call → Answer → Entry Call Answer
-made call answer = record { call = call; answer = answer }
 
 -- the ticks that the drive waits for
 abbrev pub needed : Drive → ℕ
@@ -139,42 +130,22 @@ module _ (d : Drive) (past : Log) (knows : Remembers d (memoryOf words past)) (c
   unfolding answer stalledFor
   refused call number at flags given running = rw given (counted running)
 
-  block-refused :
-      (image : List ℕ) (block number at : ℕ)
-      → eqb number 0 ≡ false
-      → (let left : Drive = leftByBlock d image block in Counted left (made (blockLoads image block) (answer number at left) ∷ past))
-  block-refused image block number at given =
-      by-test (λ (left : Drive). Counted left (made (blockLoads image block) (answer number at left) ∷ past))
-      (isRead fifteen image block && is 0 (d .state))
-      (λ idle. refused (blockLoads image block) number at (marked d .flags) given)
-      (λ other. refused (blockLoads image block) number at (d .flags) given)
-
   -- .. and neither does a cycle
   cycle-counted : (c : Cycle) → Counted (cycled d c) (made (cycles c) (answer 0 0 (cycled d c)) ∷ past)
   unfolding answer cycled stalledFor
   cycle-counted c = counted
 
   after-call : (call : Call) → Counted (reply d call .drive) (made call (reply d call .answer) ∷ past)
-  unfolding Calls.load Calls.cycle TickCalls.tick Blocks.blockLoad
-  after-call (loads given) =
-      settles (λ (a : Reply). Counted (a .drive) (made (loads given) (a .answer) ∷ past)) (verdict (loadRows d given)) _ d
-      (λ none running. absurd running)
-      (refused (loads given) _ _ (d .flags))
-  after-call (cycles c) =
-      settles (λ (a : Reply). Counted (a .drive) (made (cycles c) (a .answer) ∷ past)) (verdict (cycleRows d c)) (cycled d c) d
-      (λ none. cycle-counted c)
-      (refused (cycles c) _ _ (d .flags))
-  after-call (ticks t) =
-      settles (λ (a : Reply). Counted (a .drive) (made (ticks t) (a .answer) ∷ past)) (verdict (tickRows d t)) (ticked d t) d
-      (λ none. tick-counted t (passed (tickRows d t) tt none .0))
-      (refused (ticks t) _ _ (d .flags))
-  after-call (blockLoads image block) =
-      settles (λ (a : Reply). Counted (a .drive) (made (blockLoads image block) (a .answer) ∷ past))
-      (verdict (blockRows d image block))
-      _
-      (leftByBlock d image block)
-      (λ none running. absurd running)
-      (block-refused image block _ _)
+  after-call =
+      each-call d (λ (call : Call) (a : Reply). Counted (a .drive) (made call (a .answer) ∷ past))
+      (record {
+        loads-it = λ given none running. absurd running;
+        loads-a-block = λ image block none running. absurd running;
+        cycles-on = λ c none. cycle-counted c;
+        ticks-on = λ t none. tick-counted t (passed (tickRows d t) tt none .0);
+        refuses = λ call number at dark given. refused call number at (d .flags) given;
+        refuses-marked = λ image block number at lit given. refused (blockLoads image block) number at (marked d .flags) given;
+      })
 
 -- after every sequence of calls
 pub all-counted : (calls : List Call) → Counted (stateAfter machine calls) (log machine calls)

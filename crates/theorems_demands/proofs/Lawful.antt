@@ -11,7 +11,7 @@ use Rattle.theorems_history.specs.Log.{stateAfter, log}
 use Rattle.theorems_history.specs.Onlooker.{Memory, Asked, load, neither, heard, remember, noted, note, memoryOf}
 use Rattle.theorems_history.specs.History.{Seen}
 use Rattle.theorems_history.specs.Laws.{Step, Lawful}
-use Rattle.numbers.proofs.Tests.{by-test, decide, or-left, fails-left, fails-right, contrary, joins}
+use Rattle.numbers.proofs.Tests.{decide, or-left, fails-left, fails-right, contrary, joins}
 use Rattle.theorems_history.proofs.Steps
 use Rattle.theorems_history.proofs.Demand3.{demand3}
 use Rattle.states.specs.States.{numberOf, is, turning}
@@ -24,13 +24,10 @@ use Rattle.drive.specs.Answer.{liveWord, answer, reply as replied}
 use Rattle.verdicts.specs.Table.{verdict}
 use Rattle.drive.specs.Refusals.{highestPattern, loadRows, cycleRows, tickRows}
 use Rattle.drive.specs.Calls.{becomes, loaded, cycled, sample}
-use Rattle.drive.specs.Calls
 use Rattle.images.specs.Image.{fifteen}
 use Rattle.images.specs.Reads.{readRows, isRead}
-use Rattle.drive.specs.Blocks.{blockNumbers, blockRows, leftByBlock}
-use Rattle.drive.specs.Blocks
+use Rattle.drive.specs.Blocks.{blockNumbers, blockRows, marked}
 use Rattle.drive.specs.Ticks.{ticked}
-use Rattle.drive.specs.Ticks as TickCalls
 use Rattle.drive.specs.AnyCall.{Call, loads, cycles, ticks, blockLoads, reply}
 use Rattle.drive.specs.declared.Drive.{Drive}
 use Rattle.drive.specs.declared.answer.Answer.{Answer}
@@ -42,7 +39,7 @@ use Rattle.drive.specs.declared.offsets.Offsets.{Offsets}
 use Rattle.theorems_reached.specs.Machine.{machine}
 use Rattle.theorems_reached.specs.Reached.{Reached}
 use Rattle.verdicts.proofs.Passed.{passed, both-passed}
-use Rattle.drive.proofs.Settles.{settles}
+use Rattle.drive.proofs.EachCall.{marks, each-call}
 use Rattle.theorems_reached.proofs.Loads.{accepted-state, accepted-count}
 use Rattle.theorems_reached.proofs.Keeps.{reached-power-up, marked-reached, cycled-reached, call-keeps, every-reached}
 use Rattle.theorems_reached.proofs.Corollaries.{in-idle, disarmed-in-fault, low-excludes-high}
@@ -241,38 +238,30 @@ module _ (d : Drive) (r : Reached d) (memory : Memory) (knows : Remembers d memo
   -- refused, in IDLE it may leave flag 12
   block-load-refused :
       (image : List ℕ) (block number at : ℕ)
+      → T (marks d (blockLoads image block))
       → eqb number 0 ≡ false
-      → Done d memory (blockLoads image block) (replied number at (leftByBlock d image block))
-  block-load-refused image block number at not-0 =
-      by-test (λ (left : Drive). Done d memory (blockLoads image block) (replied number at left))
-      (isRead fifteen image block && is 0 (d .state))
-      (λ both.
-      refused-with (d .flags or flag 12 true) (marked-reached d r (and-yes (isRead fifteen image block) (is 0 (d .state)) both .1))
+      → Done d memory (blockLoads image block) (replied number at (marked d))
+  block-load-refused image block number at lit =
+      refused-with (d .flags or flag 12 true) (marked-reached d r (and-yes (isRead fifteen image block) (is 0 (d .state)) lit .1))
       (old-stays alwaysLive (FaultEnable (d .settings)) (d .flags) (flag 12 true))
-      (blockLoads image block) number at not-0)
-      (λ none. refused (blockLoads image block) number at not-0)
+      (blockLoads image block) number at
 
   done : (call : Call) → Done d memory call (reply d call)
-  unfolding Calls.load Calls.cycle TickCalls.tick Blocks.blockLoad meant
-  done (loads numbers) =
-      settles (Done d memory (loads numbers)) (verdict (loadRows d numbers)) (loaded (meant numbers)) d
-      (λ none. load-done (loads numbers) numbers refl refl (accepted-state d numbers none) (accepted-count d numbers none))
-      (refused (loads numbers) _ _)
-  done (cycles c) =
-      settles (Done d memory (cycles c)) (verdict (cycleRows d c)) (cycled d c) d
-      (λ none.
-      let p = passed (cycleRows d c) tt none in
-      cycle-done c (cycled-reached d c r (p .0) (ltb-no (p .1 .0)) (ltb-no (p .1 .1 .0)) (ltb-no (p .1 .1 .1 .0))) (p .0)
-      (ltb-no (p .1 .0)))
-      (refused (cycles c) _ _)
-  done (ticks t) =
-      settles (Done d memory (ticks t)) (verdict (tickRows d t)) (ticked d t) d
-      (λ none. tick-done t (passed (tickRows d t) tt none .0))
-      (refused (ticks t) _ _)
-  done (blockLoads image block) =
-      settles (Done d memory (blockLoads image block)) (verdict (blockRows d image block)) _ (leftByBlock d image block)
-      (λ none. block-load-done image block none)
-      (block-load-refused image block _ _)
+  unfolding meant
+  done =
+      each-call d (Done d memory)
+      (record {
+        loads-it = λ numbers none.
+            load-done (loads numbers) numbers refl refl (accepted-state d numbers none) (accepted-count d numbers none);
+        loads-a-block = block-load-done;
+        cycles-on = λ c none.
+            let p = passed (cycleRows d c) tt none in
+            cycle-done c (cycled-reached d c r (p .0) (ltb-no (p .1 .0)) (ltb-no (p .1 .1 .0)) (ltb-no (p .1 .1 .1 .0))) (p .0)
+            (ltb-no (p .1 .0));
+        ticks-on = λ t none. tick-done t (passed (tickRows d t) tt none .0);
+        refuses = λ call number at dark. refused call number at;
+        refuses-marked = block-load-refused;
+      })
 
 -- ---- every call
 

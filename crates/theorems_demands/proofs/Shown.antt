@@ -5,13 +5,36 @@ use mathlib.Core.Bool.{not, _&&_}
 use Prim.Native.Nat.{ℕ}
 use lib.Dec.{T}
 use mir.Facts.{and-yes, yes-and}
+use Rattle.theorems_history.specs.Log.{Entry}
 use Rattle.theorems_history.specs.Laws.{Inside}
 use Rattle.states.specs.States.{is, turning}
 use Rattle.faults.specs.Word.{any}
 use Rattle.drive.specs.Answer.{liveWord, answer}
+use Rattle.drive.specs.AnyCall.{Call, reply}
 use Rattle.drive.specs.declared.Drive.{Drive}
+use Rattle.drive.specs.declared.answer.Answer.{Answer}
+use Rattle.drive.specs.declared.answer.Reply.{Reply}
+use Rattle.drive.proofs.EachCall.{each-call}
 use Rattle.onlooker.specs.Words.{words}
 use Rattle.drive.proofs.Gates.{gates-by}
+
+-- a call with its answer
+abbrev pub made : Call → Answer → Entry Call Answer
+made call answer = record { call = call; answer = answer }
+
+-- each answer shows the live word of the state that its call leaves
+pub answer-shows : (d : Drive) (call : Call) → reply d call .answer .live ≡ liveWord (reply d call .drive)
+unfolding answer
+answer-shows d =
+    each-call d (λ (call : Call) (a : Reply). a .answer .live ≡ liveWord (a .drive))
+    (record {
+      loads-it = λ numbers none. refl;
+      loads-a-block = λ image block none. refl;
+      cycles-on = λ c none. refl;
+      ticks-on = λ t none. refl;
+      refuses = λ call number at dark given. refl;
+      refuses-marked = λ image block number at lit given. refl;
+    })
 
 abbrev pub inside : Drive → Inside
 inside d =

@@ -1,6 +1,6 @@
 -- A stalled pump is reported: flag 7 is what the log tells, exactly, and a whole row of held ticks leads to it.
 use mathlib.Core.Path.{_≡_, refl, sym, ap}
-use mathlib.Core.Bool.{Bool, true, false, not, _&&_, cond}
+use mathlib.Core.Bool.{Bool, true, false, not, _&&_, cond, and-comm}
 use mathlib.Core.List.{List, [], _∷_, _++_}
 use Prim.Native.Nat.{ℕ, _+_}
 use native.Mathlib.Omega.{arith}
@@ -41,12 +41,6 @@ use Rattle.theorems_demands.proofs.Lawful.{remembered}
 use Rattle.theorems_demands.proofs.Held.{all-counted}
 use Rattle.theorems_demands.proofs.FlagSevenShown.{lock-alike, enabled-alike}
 use Rattle.theorems_demands.proofs.FlagSeven as seven
-
-either-first : (a b : Bool) → (a && b) ≡ (b && a)
-either-first true true = refl
-either-first true false = refl
-either-first false true = refl
-either-first false false = refl
 
 other-way : {A : Type 0} (test : Bool) (a b : A) → cond (not test) a b ≡ cond test b a
 other-way true a b = refl
@@ -130,7 +124,7 @@ module _ (earlier : List Call) (t : Tick) (runs : T (inMotorRun (log machine ear
   low-alike = rw (knows .loaded outside .setting 0 (omega arith), knows .loaded outside .setting 21 (omega arith))
 
   set-alike : (enabled 7 numbers && long earlier t) ≡ (seven.lock d t && bit 7 (FaultEnable (d .settings)))
-  set-alike = rw (on, long-enough) (either-first (bit 7 (FaultEnable (d .settings))) (seven.lock d t))
+  set-alike = rw (on, long-enough) (and-comm (bit 7 (FaultEnable (d .settings))) (seven.lock d t))
 
   -- ---- the tick's answer
 

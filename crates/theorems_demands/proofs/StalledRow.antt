@@ -1,6 +1,6 @@
 -- A whole row of held ticks, from MOTORRUN on, with whatever calls between them: none of these ends it before flag 7 does.
 use mathlib.Core.Path.{_≡_, refl, sym, _∙_}
-use mathlib.Core.Bool.{Bool, true, false, not, _&&_, _||_, cond}
+use mathlib.Core.Bool.{Bool, true, false, not, _&&_, _||_, cond, and-true}
 use mathlib.Core.List.{List, [], _∷_, _++_}
 use Prim.Native.Nat.{ℕ, suc, _+_}
 use native.Mathlib.Omega.{arith}
@@ -8,7 +8,7 @@ use native.Mathlib.Nat.{add-suc}
 use lib.Dec.{T, eqb, leb, not-T, le→leb}
 use lib.Ieee.Bits.{is-true, is-false}
 use mir.Facts.{T-not, and-yes, yes-and, eqb-yes, leb-yes}
-use Rattle.numbers.proofs.Tests.{by-test, decide, contrary, fails-right}
+use Rattle.numbers.proofs.Tests.{decide, contrary, fails-right}
 use Rattle.states.specs.States.{is}
 use Rattle.states.proofs.Every.{at-every}
 use Rattle.fields.specs.declared.Cycle.{Cycle}
@@ -16,19 +16,16 @@ use Rattle.fields.specs.declared.Tick.{Tick}
 use Rattle.verdicts.specs.Table.{verdict}
 use Rattle.verdicts.proofs.Passed.{both-passed}
 use Rattle.images.specs.Image.{fifteen}
-use Rattle.images.specs.Reads.{readRows, isRead}
+use Rattle.images.specs.Reads.{readRows}
 use Rattle.drive.specs.Answer.{answer}
-use Rattle.drive.specs.Refusals.{loadRows, cycleRows, tickRows}
+use Rattle.drive.specs.Refusals.{loadRows}
 use Rattle.drive.specs.Calls.{cycled}
-use Rattle.drive.specs.Calls
-use Rattle.drive.specs.Blocks.{blockNumbers, blockRows, leftByBlock}
-use Rattle.drive.specs.Blocks
-use Rattle.drive.specs.Ticks as TickCalls
+use Rattle.drive.specs.Blocks.{blockNumbers, marked}
 use Rattle.drive.specs.Ticks.{ticked}
 use Rattle.drive.specs.AnyCall.{Call, loads, cycles, ticks, blockLoads, reply}
 use Rattle.drive.specs.declared.Drive.{Drive}
 use Rattle.drive.specs.declared.answer.Reply.{Reply}
-use Rattle.drive.proofs.Settles.{settles}
+use Rattle.drive.proofs.EachCall.{each-call}
 use Rattle.theorems_history.specs.Log.{stateAfter, log}
 use Rattle.theorems_history.specs.Onlooker.{tick, neither, heard, isTick, memoryOf}
 use Rattle.theorems_reached.specs.Machine.{machine}
@@ -37,7 +34,7 @@ use Rattle.onlooker.specs.Words.{words, asked, enabled}
 use Rattle.theorems_demands.specs.Stalled.{inMotorRun, numbersOf, stalls, stalledFor, lockTicks, slack, answered, trippedBy7}
 use Rattle.theorems_demands.specs.Stalled.{long, held, Row, taken, StalledPumpIsReported}
 use Rattle.theorems_demands.proofs.Lawful.{remembered}
-use Rattle.theorems_demands.proofs.Held.{made}
+use Rattle.theorems_demands.proofs.Shown.{made}
 use Rattle.theorems_demands.proofs.Stalled.{flag-seven-is-exact}
 
 -- ---- in MOTORRUN, a call that is no accepted tick
@@ -81,20 +78,18 @@ module _ (d : Drive) (running : T (is 4 (d .state))) where
   tick-passes t none = absurd none
 
   passes : (call : Call) → Passes call (reply d call)
-  unfolding Calls.load Calls.cycle TickCalls.tick Blocks.blockLoad
-  passes (loads numbers) =
-      settles (Passes (loads numbers)) (verdict (loadRows d numbers)) _ d (no-load numbers) (refused (loads numbers) d _ _ running)
-  passes (cycles c) =
-      settles (Passes (cycles c)) (verdict (cycleRows d c)) (cycled d c) d (λ none. cycle-passes c) (refused (cycles c) d _ _ running)
-  passes (ticks t) =
-      settles (Passes (ticks t)) (verdict (tickRows d t)) (ticked d t) d (λ none. tick-passes t) (refused (ticks t) d _ _ running)
-  passes (blockLoads image block) =
-      settles (Passes (blockLoads image block)) (verdict (blockRows d image block)) _ (leftByBlock d image block)
-      (λ none.
-      no-load (blockNumbers image block)
-      (both-passed (readRows fifteen image block) (loadRows d (blockNumbers image block)) tt none .1))
-      (refused (blockLoads image block) (leftByBlock d image block) _ _
-      (by-test (λ (left : Drive). T (is 4 (left .state))) (isRead fifteen image block && is 0 (d .state)) (λ u. running) (λ u. running)))
+  passes =
+      each-call d Passes
+      (record {
+        loads-it = λ numbers none. no-load numbers none;
+        loads-a-block = λ image block none.
+            no-load (blockNumbers image block)
+            (both-passed (readRows fifteen image block) (loadRows d (blockNumbers image block)) tt none .1);
+        cycles-on = λ c none. cycle-passes c;
+        ticks-on = λ t none. tick-passes t;
+        refuses = λ call number at dark. refused call d number at running;
+        refuses-marked = λ image block number at lit. refused (blockLoads image block) (marked d) number at running;
+      })
 
 -- ---- the row
 
@@ -274,7 +269,3 @@ stalled-pump-is-reported earlier row t runs (holds, held) accepted full =
       flag-seven-is-exact (row ++ earlier) t (going .running) accepted .stands
           (rw (long-now earlier runs row going t accepted stalling, enough) tt),
     )
-  where
-    and-true : (a : Bool) → (a && true) ≡ a
-    and-true true = refl
-    and-true false = refl
