@@ -39,7 +39,7 @@ same-bits =
 or-either : (a b c : Bool) → (a || b || c) ≡ (a || c || b)
 or-either a b c = Bool.or-assoc a b c ∙ ap (λ (other : Bool). a || other) (or-comm b c) ∙ sym (Bool.or-assoc a c b)
 
-or-swap : (f g h : ℕ) → (f or g or h) ≡ (f or h or g)
+pub or-swap : (f g h : ℕ) → (f or g or h) ≡ (f or h or g)
 or-swap f g h =
     same-bits (f or g or h) (f or h or g)
     (λ k. rw (bit-or k (f or g) h, bit-or k f g, bit-or k (f or h) g, bit-or k f h) (or-either (bit k f) (bit k g) (bit k h)))

@@ -42,6 +42,10 @@ no-7 s flags more none =
     ∙ bit-or 7 (alive s flags) (alive s more)
     ∙ rw (bit-and 7 more (alwaysLive or FaultEnable s), none) (or-false (bit 7 (alive s flags)))
 
+pub own : (set : Bool) → bit 7 (flag 7 set) ≡ set
+own true = refl
+own false = refl
+
 -- ---- the causes of a tick: 7, and the others
 
 module _ (d : Drive) (t : Tick) where
@@ -62,7 +66,7 @@ module _ (d : Drive) (t : Tick) where
   parted = taken-out (take 6 all) (7, lock) (drop 7 all)
 
   -- no other cause is bit 7
-  not-among : bit 7 others ≡ false
+  pub not-among : bit 7 others ≡ false
   not-among =
       is-false (bit 7 others)
       (not-T (bit 7 others)
@@ -72,7 +76,7 @@ module _ (d : Drive) (t : Tick) where
       tt
       7))
 
-  mask-7 : bit 7 (alwaysLive or FaultEnable s) ≡ bit 7 (FaultEnable s)
+  pub mask-7 : bit 7 (alwaysLive or FaultEnable s) ≡ bit 7 (FaultEnable s)
   mask-7 = bit-or 7 alwaysLive (FaultEnable s)
 
   -- the live word of what the tick raises
@@ -90,10 +94,6 @@ module _ (d : Drive) (t : Tick) where
       ap (bit 7) live-parted
       ∙ bit-or 7 (alive s (d .flags or others)) (flag 7 (lock && bit 7 (FaultEnable s)))
       ∙ rw (no-7 s (d .flags) others not-among, own (lock && bit 7 (FaultEnable s)))
-    where
-      own : (set : Bool) → bit 7 (flag 7 set) ≡ set
-      own true = refl
-      own false = refl
 
 -- ---- a tick that is taken in MOTORRUN
 
@@ -101,21 +101,21 @@ module _ (d : Drive) (running : T (is 4 (d .state))) where
   abbrev settings : List ℕ
   settings = d .settings
 
-  abbrev next : Tick → Move → Drive
+  abbrev pub next : Tick → Move → Drive
   next t move = moved d t (watch d t) (raised d t) (armedBy d t) (nth d) move
 
   -- it trips, or stops, or stays
-  abbrev choice : (trips stops : Bool) → Move
+  abbrev pub choice : (trips stops : Bool) → Move
   choice trips stops = cond trips (Enter Fault) (cond stops (Enter Stop) Stay)
 
-  abbrev trips : Tick → Bool
+  abbrev pub trips : Tick → Bool
   trips t = alight d (raised d t)
 
   chosen-is : (t : Tick) → chosen d t ≡ choice (trips t) (low settings t)
   unfolding moveOf
   chosen-is t = rw (named 4 (d .state) running)
 
-  ticked-is : (t : Tick) → ticked d t ≡ next t (choice (trips t) (low settings t))
+  pub ticked-is : (t : Tick) → ticked d t ≡ next t (choice (trips t) (low settings t))
   unfolding ticked
   ticked-is t = ap (next t) (chosen-is t)
 
@@ -146,6 +146,24 @@ module _ (d : Drive) (running : T (is 4 (d .state))) where
   pub state-after : (t : Tick) → answer 0 0 (ticked d t) .state ≡ cond (trips t) 5 (cond (low settings t) 1 4)
   state-after t = rw (ticked-is t) (state-left t (trips t) (low settings t))
 
+  -- where it is still there afterwards: no flag is live, no low was held, and it stayed
+  module _ (t : Tick) (there : answer 0 0 (ticked d t) .state ≡ 4) where
+    pub calm : (trips t ≡ false) × (low settings t ≡ false)
+    calm = two-tests (trips t) (low settings t) (sym (state-after t) ∙ there)
+      where
+        two-tests : (a b : Bool) → _≡_ {A = ℕ} (cond a 5 (cond b 1 4)) 4 → (a ≡ false) × (b ≡ false)
+        two-tests true b e = absurd (omega (arith, e))
+        two-tests false true e = absurd (omega (arith, e))
+        two-tests false false e = (refl, refl)
+
+    pub dark : alive settings (raised d t) ≡ 0
+    dark = eqb-yes (T-not-not (eqb (alive settings (raised d t)) 0) (rw (calm .0) tt))
+
+    pub stayed : ticked d t ≡ next t Stay
+    stayed =
+        ticked-is t
+        ∙ ap (next t) (ap (λ (a : Bool). choice a (low settings t)) (calm .0) ∙ ap (choice false) (calm .1))
+
   -- ---- flag 7 in the live word of a reached state
 
   module _ (t : Tick) (r : Reached d) where
@@ -171,7 +189,7 @@ module _ (d : Drive) (running : T (is 4 (d .state))) where
         (not-T (leb (MotorLim settings) 0)
         (λ none. omega (arith, leb-yes {a = MotorLim settings} {b = 0} none, at-least loaded 12 (omega arith)))))
 
-    no-lock : lock d (slack t) ≡ false
+    pub no-lock : lock d (slack t) ≡ false
     unfolding watched
     no-lock = rw not-held (is-false (is 4 (d .state) && false) (fails-right (is 4 (d .state)) false tt))
 
@@ -180,7 +198,7 @@ module _ (d : Drive) (running : T (is 4 (d .state))) where
     others-alike = refl
 
     -- it has the other causes, and not 7
-    live-slack : alive settings (raised d (slack t)) ≡ alive settings (d .flags or others d t)
+    pub live-slack : alive settings (raised d (slack t)) ≡ alive settings (d .flags or others d t)
     live-slack =
         live-parted d (slack t)
         ∙ ap
@@ -191,21 +209,10 @@ module _ (d : Drive) (running : T (is 4 (d .state))) where
 
     -- no low and no other cause
     module _ (runs-on : answer 0 0 (ticked d (slack t)) .state ≡ 4) where
-      calm : (trips (slack t) ≡ false) × (low settings t ≡ false)
-      calm = two-tests (trips (slack t)) (low settings t) (sym (state-after (slack t)) ∙ runs-on)
-        where
-          two-tests : (a b : Bool) → _≡_ {A = ℕ} (cond a 5 (cond b 1 4)) 4 → (a ≡ false) × (b ≡ false)
-          two-tests true b e = absurd (omega (arith, e))
-          two-tests false true e = absurd (omega (arith, e))
-          two-tests false false e = (refl, refl)
-
-      dark-slack : alive settings (raised d (slack t)) ≡ 0
-      dark-slack = eqb-yes (T-not-not (eqb (alive settings (raised d (slack t))) 0) (rw (calm .0) tt))
-
       live-now : alive settings (raised d t) ≡ flag 7 (lock d t && bit 7 (FaultEnable settings))
       live-now =
           live-parted d t
-          ∙ rw (sym live-slack ∙ dark-slack) (or-zero-l (flag 7 (lock d t && bit 7 (FaultEnable settings))))
+          ∙ rw (sym live-slack ∙ dark (slack t) runs-on) (or-zero-l (flag 7 (lock d t && bit 7 (FaultEnable settings))))
 
       -- a trip by flag 7, and none
       trip-answer :
@@ -216,12 +223,7 @@ module _ (d : Drive) (running : T (is 4 (d .state))) where
 
       run-answer : alive settings (raised d t) ≡ 0 → answer 0 0 (next t Stay) ≡ answer 0 0 (next (slack t) Stay)
       unfolding answer watched targetOf
-      run-answer live = rw (live, dark-slack, is-true (is 4 (d .state)) running)
-
-      slack-stays : ticked d (slack t) ≡ next (slack t) Stay
-      slack-stays =
-          ticked-is (slack t)
-          ∙ ap (next (slack t)) (ap (λ (a : Bool). choice a (low settings t)) (calm .0) ∙ ap (choice false) (calm .1))
+      run-answer live = rw (live, dark (slack t) runs-on, is-true (is 4 (d .state)) running)
 
       by-flag :
           (set : Bool)
@@ -238,6 +240,6 @@ module _ (d : Drive) (running : T (is 4 (d .state))) where
       only-7 =
           let set : Bool = lock d t && bit 7 (FaultEnable settings) in
           let now : choice (trips t) (low settings t) ≡ choice (any (flag 7 set)) false =
-          ap (λ (word : ℕ). choice (any word) (low settings t)) live-now ∙ ap (choice (any (flag 7 set))) (calm .1)
+          ap (λ (word : ℕ). choice (any word) (low settings t)) live-now ∙ ap (choice (any (flag 7 set))) (calm (slack t) runs-on .1)
           in
-          rw (ticked-is t ∙ ap (next t) now, slack-stays) (by-flag set live-now)
+          rw (ticked-is t ∙ ap (next t) now, stayed (slack t) runs-on) (by-flag set live-now)

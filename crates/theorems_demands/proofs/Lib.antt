@@ -12,9 +12,12 @@ pub mod BlockLoads
 pub mod Refused
 pub mod FlagTwelve
 pub mod Held
+pub mod Torque
 pub mod FlagSeven
 pub mod FlagSevenShown
 pub mod Stalled
+pub mod Eased
+pub mod EasedCalls
 pub mod StalledRow
 pub mod Computes
 pub mod Bench

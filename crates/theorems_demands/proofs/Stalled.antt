@@ -1,6 +1,6 @@
 -- A stalled pump is reported: flag 7 is what the log tells, exactly, and a whole row of held ticks leads to it.
-use mathlib.Core.Path.{_≡_, refl, sym, ap}
-use mathlib.Core.Bool.{Bool, true, false, not, _&&_, cond, and-comm}
+use mathlib.Core.Path.{_≡_, refl, sym, ap, _∙_}
+use mathlib.Core.Bool.{Bool, true, false, not, _&&_, cond, and-comm, _||_}
 use mathlib.Core.List.{List, [], _∷_, _++_}
 use Prim.Native.Nat.{ℕ, _+_}
 use native.Mathlib.Omega.{arith}
@@ -9,7 +9,7 @@ use lib.IntN.{natAbs}
 use lib.ListN.{take, drop}
 use lib.Ieee.Bits.{is-true}
 use Rattle.faults.specs.Word.{bit, flag, _or_}
-use Rattle.faults.proofs.Bits.{new-bit}
+use Rattle.faults.proofs.Bits.{bit-or}
 use Rattle.states.specs.States.{is}
 use Rattle.states.proofs.Every.{at-every}
 use Rattle.settings.specs.Settings.{FaultEnable}
@@ -38,6 +38,7 @@ use Rattle.theorems_demands.specs.Stalled.{Log, inMotorRun, numbersOf, s
 use Rattle.theorems_demands.specs.Stalled.{long, FlagSevenIsExact}
 use Rattle.theorems_demands.proofs.Remembers.{Remembers}
 use Rattle.theorems_demands.proofs.Lawful.{remembered}
+use Rattle.theorems_demands.proofs.Torque.{unrefused, accepted, without}
 use Rattle.theorems_demands.proofs.Held.{all-counted}
 use Rattle.theorems_demands.proofs.FlagSevenShown.{lock-alike, enabled-alike}
 use Rattle.theorems_demands.proofs.FlagSeven as seven
@@ -45,24 +46,6 @@ use Rattle.theorems_demands.proofs.FlagSeven as seven
 other-way : {A : Type 0} (test : Bool) (a b : A) → cond (not test) a b ≡ cond test b a
 other-way true a b = refl
 other-way false a b = refl
-
--- a reply with the number 0 was accepted
-accepted-by : (v : Verdict) (next left : Drive) → settle v next left .answer .number ≡ 0 → v .number ≡ 0
-unfolding answer
-accepted-by v next left =
-    settles (λ (r : Reply). r .answer .number ≡ 0 → v .number ≡ 0) v next left (λ none e. none) (λ given e. e)
-
-accepts : (v : Verdict) (next left : Drive) → v .number ≡ 0 → settle v next left ≡ replied 0 0 next
-accepts v next left none = rw none
-
--- another row that does not hold in the place of one
-passed-with :
-    (before : List Row) (r other : Row) (behind : List Row)
-    → Passed (before ++ (r ∷ behind))
-    → T (not (other .holds))
-    → Passed (before ++ (other ∷ behind))
-passed-with [] r other behind p fails = (fails, p .1)
-passed-with (q ∷ before) r other behind p fails = (p .0, passed-with before r other behind (p .1) fails)
 
 module _ (earlier : List Call) (t : Tick) (runs : T (inMotorRun (log machine earlier))) (taken : answered earlier t .number ≡ 0) where
   abbrev d : Drive
@@ -88,26 +71,16 @@ module _ (earlier : List Call) (t : Tick) (runs : T (inMotorRun (log machine ear
 
   -- the tick, with its torque and without
   none : verdict (tickRows d t) .number ≡ 0
-  unfolding TickCalls.tick
-  none = accepted-by (verdict (tickRows d t)) (ticked d t) d taken
-
-  none-slack : verdict (tickRows d (slack t)) .number ≡ 0
-  none-slack =
-      let rows : List Row = tickRows d t in
-      none-holds (tickRows d (slack t))
-      (passed-with (take 9 rows) (row 1 9 (ltb 4095 (natAbs (t .«trq_ref»)))) (row 1 9 false) (drop 10 rows) (passed rows tt none) tt)
+  none = unrefused d t taken
 
   answer-is : answered earlier t ≡ answer 0 0 (ticked d t)
-  unfolding TickCalls.tick
-  answer-is = ap (λ (a : Reply). a .answer) (accepts (verdict (tickRows d t)) (ticked d t) d none)
+  answer-is = ap (λ (a : Reply). a .answer) (accepted d t none)
 
   left-is : machine .step d (ticks t) ≡ ticked d t
-  unfolding TickCalls.tick
-  left-is = ap (λ (a : Reply). a .drive) (accepts (verdict (tickRows d t)) (ticked d t) d none)
+  left-is = ap (λ (a : Reply). a .drive) (accepted d t none)
 
   slack-is : answered earlier (slack t) ≡ answer 0 0 (ticked d (slack t))
-  unfolding TickCalls.tick
-  slack-is = ap (λ (a : Reply). a .answer) (accepts (verdict (tickRows d (slack t))) (ticked d (slack t)) d none-slack)
+  slack-is = ap (λ (a : Reply). a .answer) (accepted d (slack t) (without d t none))
 
   -- ---- what the log tells, and what the drive counts
 
@@ -136,11 +109,13 @@ module _ (earlier : List Call) (t : Tick) (runs : T (inMotorRun (log machine ear
       rw (answer-is, seven.live-after d running t, low-alike, seven.state-after d running t)
       (other-way (eqb (alive (d .settings) (raised d t)) 0) 5 (cond (low (d .settings) t) 1 4))
 
-  stands-is : T (long earlier t) → T (bit 7 (machine .step d (ticks t) .flags))
-  stands-is enough =
-      rw (left-is, seven.flags-after d running t, seven.parted d t)
-      (new-bit 7 (d .flags) (seven.others d t or flag 7 (seven.lock d t))
-      (new-bit 7 (seven.others d t) (flag 7 (seven.lock d t)) (rw (is-true (seven.lock d t) (rw long-enough at enough)) tt)))
+  stands-is : bit 7 (machine .step d (ticks t) .flags) ≡ (bit 7 (d .flags) || long earlier t)
+  stands-is =
+      ap (λ (after : Drive). bit 7 (after .flags)) left-is
+      ∙ ap (bit 7) (seven.flags-after d running t ∙ ap (λ (causes : ℕ). d .flags or causes) (seven.parted d t))
+      ∙ bit-or 7 (d .flags) (seven.others d t or flag 7 (seven.lock d t))
+      ∙ ap (λ (now : Bool). bit 7 (d .flags) || now) (bit-or 7 (seven.others d t) (flag 7 (seven.lock d t)))
+      ∙ rw (seven.not-among d t, seven.own (seven.lock d t), long-enough)
 
   alone-is :
       answered earlier (slack t) .state ≡ 4

@@ -1,5 +1,5 @@
 -- A whole row of held ticks, from MOTORRUN on, with whatever calls between them: none of these ends it before flag 7 does.
-use mathlib.Core.Path.{_≡_, refl, sym, _∙_}
+use mathlib.Core.Path.{_≡_, refl, sym, ap, _∙_}
 use mathlib.Core.Bool.{Bool, true, false, not, _&&_, _||_, cond, and-true}
 use mathlib.Core.List.{List, [], _∷_, _++_}
 use Prim.Native.Nat.{ℕ, suc, _+_}
@@ -8,7 +8,7 @@ use native.Mathlib.Nat.{add-suc}
 use lib.Dec.{T, eqb, leb, not-T, le→leb}
 use lib.Ieee.Bits.{is-true, is-false}
 use mir.Facts.{T-not, and-yes, yes-and, eqb-yes, leb-yes}
-use Rattle.numbers.proofs.Tests.{decide, contrary, fails-right}
+use Rattle.numbers.proofs.Tests.{decide, contrary, or-right, fails-right}
 use Rattle.states.specs.States.{is}
 use Rattle.states.proofs.Every.{at-every}
 use Rattle.fields.specs.declared.Cycle.{Cycle}
@@ -17,8 +17,9 @@ use Rattle.verdicts.specs.Table.{verdict}
 use Rattle.verdicts.proofs.Passed.{both-passed}
 use Rattle.images.specs.Image.{fifteen}
 use Rattle.images.specs.Reads.{readRows}
-use Rattle.drive.specs.Answer.{answer}
-use Rattle.drive.specs.Refusals.{loadRows}
+use Rattle.faults.specs.Word.{bit}
+use Rattle.drive.specs.Answer.{answer, reply as replied}
+use Rattle.drive.specs.Refusals.{tickRows}
 use Rattle.drive.specs.Calls.{cycled}
 use Rattle.drive.specs.Blocks.{blockNumbers, marked}
 use Rattle.drive.specs.Ticks.{ticked}
@@ -29,12 +30,17 @@ use Rattle.drive.proofs.EachCall.{each-call}
 use Rattle.theorems_history.specs.Log.{stateAfter, log}
 use Rattle.theorems_history.specs.Onlooker.{tick, neither, heard, isTick, memoryOf}
 use Rattle.theorems_reached.specs.Machine.{machine}
+use Rattle.theorems_reached.specs.Reached.{Loaded}
+use Rattle.theorems_reached.proofs.Keeps.{every-reached}
 use Rattle.theorems_reached.proofs.Loads.{accepted-state}
 use Rattle.onlooker.specs.Words.{words, asked, enabled}
 use Rattle.theorems_demands.specs.Stalled.{inMotorRun, numbersOf, stalls, stalledFor, lockTicks, slack, answered, trippedBy7}
-use Rattle.theorems_demands.specs.Stalled.{long, held, Row, taken, StalledPumpIsReported}
+use Rattle.theorems_demands.specs.Stalled.{long, slackened, torqueless, held, Row, ticksNow, taken, StalledPumpIsReported}
 use Rattle.theorems_demands.proofs.Lawful.{remembered}
 use Rattle.theorems_demands.proofs.Shown.{made}
+use Rattle.theorems_demands.proofs.Torque.{unrefused, accepted, without, with-torque}
+use Rattle.theorems_demands.proofs.Eased.{Alike, itself, answered-alike, ticked-alike}
+use Rattle.theorems_demands.proofs.EasedCalls.{no-load, no-block-load, no-tick-either, still-alike}
 use Rattle.theorems_demands.proofs.Stalled.{flag-seven-is-exact}
 
 -- ---- in MOTORRUN, a call that is no accepted tick
@@ -46,13 +52,6 @@ module _ (d : Drive) (running : T (is 4 (d .state))) where
       T (not (isTick words (heard words (made call (a .answer)))))
       → (heard words (made call (a .answer)) ≡ neither)
       × T (is 4 (a .drive .state))
-
-  -- no load is accepted there
-  no-load : {C : Type 0} (numbers : List ℕ) → verdict (loadRows d numbers) .number ≡ 0 → C
-  no-load numbers none =
-      absurd
-      (T-not (is 0 (d .state) || is 1 (d .state)) (accepted-state d numbers none)
-      (at-every (is 4) (λ s. not (is 0 s || is 1 s)) tt (d .state) running))
 
   refused :
       (call : Call) (left : Drive) (number at : ℕ)
@@ -81,40 +80,54 @@ module _ (d : Drive) (running : T (is 4 (d .state))) where
   passes =
       each-call d Passes
       (record {
-        loads-it = λ numbers none. no-load numbers none;
-        loads-a-block = λ image block none.
-            no-load (blockNumbers image block)
-            (both-passed (readRows fifteen image block) (loadRows d (blockNumbers image block)) tt none .1);
+        loads-it = λ numbers none. no-load d running numbers none;
+        loads-a-block = λ image block none. no-block-load d running image block none;
         cycles-on = λ c none. cycle-passes c;
         ticks-on = λ t none. tick-passes t;
         refuses = λ call number at dark. refused call d number at running;
         refuses-marked = λ image block number at lit. refused (blockLoads image block) (marked d) number at running;
       })
 
--- ---- the row
+-- a call that asks something else is no tick, and what he hears of a tick was accepted
+no-tick : {C : Type 0} (past : List Call) (call : Call) → T (not (isTick words (asked call))) → T (ticksNow past call) → C
+no-tick {C} past call other = go (eqb (machine .answer (stateAfter machine past) call .number) 0)
+  where
+    go : (test : Bool) → T (isTick words (cond test (asked call) neither)) → C
+    go true is = absurd (T-not (isTick words (asked call)) is other)
+    go false is = absurd is
 
--- after these calls the drive still runs, under the same settings, and the log has counted each of their ticks
-record Going (row earlier : List Call) : Type 0 where
-  running : T (inMotorRun (log machine (row ++ earlier)))
-  same : numbersOf (log machine (row ++ earlier)) ≡ numbersOf (log machine earlier)
-  count : stalledFor (log machine (row ++ earlier)) ≡ stalledFor (log machine earlier) + taken row earlier
+heard-tick : (test : Bool) (t : Tick) → T (isTick words (cond test (tick t) neither)) → T test
+heard-tick true t is = tt
+heard-tick false t is = is
 
--- a held tick makes the row longer by one
-module _ (earlier : List Call) (t : Tick) (runs : T (inMotorRun (log machine earlier))) (accepted : answered earlier t .number ≡ 0) where
-  pub longer :
+-- ---- one tick more
+
+module _ (earlier : List Call) (t : Tick) (runs : T (inMotorRun (log machine earlier))) (accepts : answered earlier t .number ≡ 0) where
+  -- where it stalls, it makes the row longer by one
+  longer :
       T (stalls (numbersOf (log machine earlier)) t)
       → stalledFor (log machine (ticks t ∷ earlier)) ≡ suc (stalledFor (log machine earlier))
   unfolding log stalledFor
   longer stalling =
-      rw (accepted, is-true (inMotorRun (log machine earlier)) runs, is-true (stalls (numbersOf (log machine earlier)) t) stalling)
+      rw (accepts, is-true (inMotorRun (log machine earlier)) runs, is-true (stalls (numbersOf (log machine earlier)) t) stalling)
 
   same-numbers : numbersOf (log machine (ticks t ∷ earlier)) ≡ numbersOf (log machine earlier)
   unfolding log memoryOf
-  same-numbers = rw accepted
+  same-numbers = rw accepts
 
   still-running : answered earlier t .state ≡ 4 → T (inMotorRun (log machine (ticks t ∷ earlier)))
   unfolding log memoryOf
   still-running at = rw at tt
+
+-- ---- the row
+
+-- after these calls the drive still runs, under the same settings; the log has counted each of their ticks; and without torque it would be
+-- alike
+record Going (row earlier : List Call) : Type 0 where
+  running : T (inMotorRun (log machine (row ++ earlier)))
+  same : numbersOf (log machine (row ++ earlier)) ≡ numbersOf (log machine earlier)
+  count : stalledFor (log machine (row ++ earlier)) ≡ stalledFor (log machine earlier) + taken row earlier
+  alike : Alike (stateAfter machine (row ++ earlier)) (stateAfter machine (torqueless row earlier))
 
 module _ (earlier : List Call) (runs : T (inMotorRun (log machine earlier))) where
   abbrev numbers : List ℕ
@@ -140,132 +153,144 @@ module _ (earlier : List Call) (runs : T (inMotorRun (log machine earlier))) whe
     abbrev past : List Call
     past = row ++ earlier
 
-    -- the row with the next held tick
-    long-now :
-        (t : Tick)
-        → answered past t .number ≡ 0
-        → T (stalls (numbersOf (log machine past)) t)
-        → long past t ≡ leb (lockTicks numbers) (before + suc (taken row earlier))
-    long-now t accepted stalling =
-        rw (longer past t (going .running) accepted stalling, going .same, going .count, add-suc before (taken row earlier))
+    abbrev eased : List Call
+    eased = torqueless row earlier
 
-    -- what the next held tick is answered
-    next-held :
-        (t : Tick)
-        → answered past t .number ≡ 0
-        → held past (ticks t)
-        → answered past t
-        ≡ cond (due (suc (taken row earlier))) (trippedBy7 (answered past (slack t))) (answered past (slack t))
-    next-held t accepted holds =
-        let (stalling, runs-on) = holds accepted in
-        let set : (enabled 7 (numbersOf (log machine past)) && long past t) ≡ due (suc (taken row earlier)) =
-        rw (long-now t accepted stalling, going .same)
-        in
-        rw (← set) (flag-seven-is-exact past t (going .running) accepted .alone runs-on)
+    -- the drive, and the one without torque
+    abbrev d : Drive
+    d = stateAfter machine past
 
-    -- the row with one call more
-    with-tick :
-        (t : Tick)
-        → answered past t .number ≡ 0
-        → held past (ticks t)
-        → T (not (due (suc (taken row earlier))))
-        → Going (ticks t ∷ row) earlier
-    unfolding taken
-    with-tick t accepted holds short =
-        let (stalling, runs-on) = holds accepted in
-        let answer-now = next-held t accepted holds in
-        record {
-          running =
-              still-running past t (going .running) accepted
-              (rw (rw (is-false (due (suc (taken row earlier))) short) at answer-now) runs-on);
-          same = same-numbers past t (going .running) accepted ∙ going .same;
-          count =
-              longer past t (going .running) accepted stalling
-              ∙ rw (accepted, going .count) (sym (add-suc before (taken row earlier)));
-        }
+    abbrev other : Drive
+    other = stateAfter machine eased
 
-    with-other : (call : Call)
-        → T (not (isTick words (heard words (made call (machine .answer (stateAfter machine past) call)))))
-        → Going (call ∷ row) earlier
+    running : T (is 4 (d .state))
+    running = rw (remembered past .shown) at (going .running)
+
+    loaded : Loaded (d .settings)
+    loaded = every-reached past .settings (at-every (is 4) (λ s. not (is 0 s)) tt (d .state) running)
+
+    -- the next tick, which the other accepts without its torque
+    module _ (t : Tick) (free : answered eased (slack t) .number ≡ 0) (holds : held numbers eased (ticks t)) where
+      other-unrefused : verdict (tickRows other (slack t)) .number ≡ 0
+      other-unrefused = unrefused other (slack t) free
+
+      slack-unrefused : verdict (tickRows d (slack t)) .number ≡ 0
+      slack-unrefused = sym (ap (λ (drive : Drive). verdict (tickRows drive (slack t)) .number) (going .alike .same)) ∙ other-unrefused
+
+      -- so is it with its torque
+      replies : reply d (ticks t) ≡ replied 0 0 (ticked d t)
+      replies = accepted d t (with-torque d t (holds free .0) slack-unrefused)
+
+      accepts : answered past t .number ≡ 0
+      unfolding answer
+      accepts = ap (λ (r : Reply). r .answer .number) replies
+
+      -- without its torque both answer alike
+      other-replies : reply other (ticks (slack t)) ≡ replied 0 0 (ticked other (slack t))
+      other-replies = accepted other (slack t) other-unrefused
+
+      slack-alike : answered past (slack t) ≡ answered eased (slack t)
+      slack-alike =
+          ap (λ (r : Reply). r .answer) (accepted d (slack t) slack-unrefused)
+          ∙ answered-alike d other (going .alike) running loaded t
+          ∙ sym (ap (λ (r : Reply). r .answer) other-replies)
+
+      stalling : T (stalls (numbersOf (log machine past)) t)
+      stalling = rw (going .same) (holds free .1)
+
+      long-now : long past t ≡ leb (lockTicks numbers) (before + suc (taken row earlier))
+      long-now = rw (longer past t (going .running) accepts stalling, going .same, going .count, add-suc before (taken row earlier))
+
+      answers :
+          answered past t
+          ≡ cond (due (suc (taken row earlier))) (trippedBy7 (answered eased (slack t))) (answered eased (slack t))
+      answers =
+          let set : (enabled 7 (numbersOf (log machine past)) && long past t) ≡ due (suc (taken row earlier)) =
+          rw (long-now, going .same)
+          in
+          let runs-on : answered past (slack t) .state ≡ 4 = rw slack-alike (holds free .2) in
+          rw (← set, ← slack-alike) (flag-seven-is-exact past t (going .running) accepts .alone runs-on)
+
+      with-tick : T (not (due (suc (taken row earlier)))) → Going (ticks t ∷ row) earlier
+      unfolding taken stateAfter
+      with-tick short =
+          let there : answered past t .state ≡ 4 =
+          rw (rw (is-false (due (suc (taken row earlier))) short) at answers) (holds free .2)
+          in
+          record {
+            running = still-running past t (going .running) accepts there;
+            same = same-numbers past t (going .running) accepts ∙ going .same;
+            count =
+                longer past t (going .running) accepts stalling
+                ∙ rw (free, going .count) (sym (add-suc before (taken row earlier)));
+            alike =
+                rw (ap (λ (r : Reply). r .drive) replies, ap (λ (r : Reply). r .drive) other-replies)
+                (ticked-alike d other (going .alike) running loaded t
+                (sym (ap (λ (r : Reply). r .answer .state) replies) ∙ there)
+                (sym (ap (λ (r : Reply). r .answer .state) other-replies) ∙ holds free .2));
+          }
+
+    -- any other call
+    with-other : (call : Call) → T (not (ticksNow eased (slackened call))) → Going (call ∷ row) earlier
     unfolding taken log memoryOf stalledFor stateAfter
     with-other call none =
-        let knows = remembered past in
-        let here : T (is 4 (stateAfter machine past .state)) = rw (knows .shown) at (going .running) in
-        let (unheard, still) = passes (stateAfter machine past) here call none in
+        let real = no-tick-either d other (going .alike) running call none in
+        let (unheard, still) = passes d running call real in
         record {
           running = rw (remembered (call ∷ past) .shown) still;
           same = rw unheard (going .same);
-          count = rw unheard (going .count);
+          count = rw (unheard, is-false (ticksNow eased (slackened call)) none) (going .count);
+          alike = still-alike d other (going .alike) running call none;
         }
 
-  -- a call more, which is an accepted tick or not
-  module _ (row : List Call) where
-    abbrev ticksNow : Call → Bool
-    ticksNow call = isTick words (heard words (made call (machine .answer (stateAfter machine (row ++ earlier)) call)))
-
-    no-more : (call : Call) → T (not (ticksNow call)) → taken (call ∷ row) earlier ≡ taken row earlier
-    unfolding taken
-    no-more call none = rw (is-false (ticksNow call) none)
-
-    one-more : (t : Tick) → answered (row ++ earlier) t .number ≡ 0 → taken (ticks t ∷ row) earlier ≡ suc (taken row earlier)
-    unfolding taken
-    one-more t accepted = rw accepted
-
-    -- a call that asks something else is no tick
-    no-tick : {C : Type 0} (call : Call) → T (not (isTick words (asked call))) → T (ticksNow call) → C
-    no-tick {C} call other = go (eqb (machine .answer (stateAfter machine (row ++ earlier)) call .number) 0)
-      where
-        go : (test : Bool) → T (isTick words (cond test (asked call) neither)) → C
-        go true is = absurd (T-not (isTick words (asked call)) is other)
-        go false is = absurd is
-
-    heard-tick : (test : Bool) (t : Tick) → T (isTick words (cond test (tick t) neither)) → T test
-    heard-tick true t is = tt
-    heard-tick false t is = is
-
-    grown :
-        (call : Call)
-        → held (row ++ earlier) call
-        → (T (not (due (taken row earlier))) → Going row earlier)
-        → T (not (due (taken (call ∷ row) earlier)))
-        → T (ticksNow call)
-        → Going (call ∷ row) earlier
-    grown (loads numbers) holds going short is = no-tick (loads numbers) tt is
-    grown (cycles c) holds going short is = no-tick (cycles c) tt is
-    grown (ticks t) holds going short is =
-        let accepted : answered (row ++ earlier) t .number ≡ 0 =
-        eqb-yes (heard-tick (eqb (answered (row ++ earlier) t .number) 0) t is)
-        in
-        let short-now : T (not (due (suc (taken row earlier)))) = rw (one-more t accepted) at short in
-        with-tick row (going (sooner (taken row earlier) short-now)) t accepted holds short-now
-    grown (blockLoads image block) holds going short is = no-tick (blockLoads image block) tt is
-
   -- until flag 7 trips, the row goes on
+  grown :
+      (row : List Call) (call : Call)
+      → held numbers (torqueless row earlier) call
+      → (T (not (due (taken row earlier))) → Going row earlier)
+      → T (not (due (taken (call ∷ row) earlier)))
+      → T (ticksNow (torqueless row earlier) (slackened call))
+      → Going (call ∷ row) earlier
+  unfolding taken
+  grown row (loads given) holds going short now = no-tick (torqueless row earlier) (loads given) tt now
+  grown row (cycles c) holds going short now = no-tick (torqueless row earlier) (cycles c) tt now
+  grown row (ticks t) holds going short now =
+      let eased : List Call = torqueless row earlier in
+      let free : answered eased (slack t) .number ≡ 0 = eqb-yes (heard-tick (eqb (answered eased (slack t) .number) 0) (slack t) now) in
+      let short-now : T (not (due (suc (taken row earlier)))) = rw free at short in
+      with-tick row (going (sooner (taken row earlier) short-now)) t free holds short-now
+  grown row (blockLoads image block) holds going short now = no-tick (torqueless row earlier) (blockLoads image block) tt now
+
   goes : (row : List Call) → Row row earlier → T (not (due (taken row earlier))) → Going row earlier
   unfolding Row taken
-  goes [] held short = record { running = runs; same = refl; count = omega arith }
-  goes (call ∷ row) (holds, held) short =
-      decide (ticksNow row call) (grown row call holds (goes row held) short)
-      (λ none. with-other row (goes row held (rw (no-more row call none) at short)) call none)
+  goes [] all short = record { running = runs; same = refl; count = omega arith; alike = itself (stateAfter machine earlier) }
+  goes (call ∷ row) (holds, all) short =
+      decide (ticksNow (torqueless row earlier) (slackened call)) (grown row call holds (goes row all) short)
+      (λ none.
+      with-other row
+      (goes row all (rw (is-false (ticksNow (torqueless row earlier) (slackened call)) none) at short))
+      call
+      none)
 
 pub stalled-pump-is-reported : StalledPumpIsReported
 unfolding Row
-stalled-pump-is-reported earlier row t runs (holds, held) accepted full =
+stalled-pump-is-reported earlier row t runs (holds, all) free full =
     let s : List ℕ = numbersOf (log machine earlier) in
-    let before : ℕ = stalledFor (log machine earlier) in
-    let count : ℕ = taken row earlier in
-    let short : T (not (due earlier runs count)) =
-    fails-right (enabled 7 s) (leb (lockTicks s) (before + count))
-    (not-T (leb (lockTicks s) (before + count))
-    (λ enough. omega (arith, full, leb-yes {a = lockTicks s} {b = before + count} enough)))
+    let count : ℕ = stalledFor (log machine earlier) + taken row earlier in
+    let short : T (not (due earlier runs (taken row earlier))) =
+    fails-right (enabled 7 s) (leb (lockTicks s) count)
+    (not-T (leb (lockTicks s) count) (λ enough. omega (arith, full, leb-yes {a = lockTicks s} {b = count} enough)))
     in
-    let going = goes earlier runs row held short in
-    let (stalling, runs-on) = holds accepted in
-    let enough : leb (lockTicks s) (before + suc count) ≡ true =
-    is-true (leb (lockTicks s) (before + suc count)) (le→leb (lockTicks s) (before + suc count) (omega (arith, full)))
+    let going = goes earlier runs row all short in
+    let next : ℕ = stalledFor (log machine earlier) + suc (taken row earlier) in
+    let enough : leb (lockTicks s) next ≡ true = is-true (leb (lockTicks s) next) (le→leb (lockTicks s) next (omega (arith, full))) in
+    let set : due earlier runs (suc (taken row earlier)) ≡ enabled 7 s = rw enough (and-true (enabled 7 s)) in
+    let exact =
+    flag-seven-is-exact (row ++ earlier) t (going .running) (accepts earlier runs row going t free holds)
     in
-    let set : due earlier runs (suc count) ≡ enabled 7 s = rw enough (and-true (enabled 7 s)) in (
-      rw (← set) (next-held earlier runs row going t accepted holds),
-      flag-seven-is-exact (row ++ earlier) t (going .running) accepted .stands
-          (rw (long-now earlier runs row going t accepted stalling, enough) tt),
-    )
+    record {
+      answers = rw (← set) (answers earlier runs row going t free holds);
+      stands =
+          rw (exact .stands, long-now earlier runs row going t free holds, enough)
+          (or-right (bit 7 (stateAfter machine (row ++ earlier) .flags)) true tt);
+    }

@@ -1,13 +1,14 @@
 -- Document 02, M-103, of calls and answers: "A stalled pump that no one reports. With cold polymer the shaft stands, speed reads about
 -- zero, and bit 7 stays quiet because 01 starts its speed range at MinSpd. Document 004 does too, but the house rule now differs: the
 -- range is every absolute speed up to 4095." Whoever reads a log can count for how many ticks in a row a shaft was held, and tell from it
--- when flag 7 stands; the answers say the same. Settings are the numbers of the last accepted load, and the state is the one that the last
--- answer showed, as the onlooker of demand 3 remembers them. One thing is read off the drive's state: flag 7 where it is masked, which no
--- answer shows.
-use Prim.Native.Nat.{ℕ, suc, _+_, _*_, _^_}
+-- when flag 7 stands; the live word of each answer says the same. Settings are the numbers of the last accepted load, and the state is the
+-- one that the last answer showed, as the onlooker of demand 3 remembers them. Two things stand in no log: flag 7 where it is masked, which
+-- no answer shows and which is read off the drive's state; and what the drive would answer without torque, by which "no low and no other
+-- cause" is told.
+use Prim.Native.Nat.{ℕ, suc, _+_, _*_, _^_, _≤_}
 use mathlib.Core.Bool.{Bool, false, not, _&&_, _||_, cond}
 use mathlib.Core.Path.{_≡_}
-use mathlib.Core.List.{List, [], _∷_, _++_}
+use mathlib.Core.List.{List, [], _∷_, _++_, map}
 use lib.Dec.{T, eqb, leb}
 use lib.IntN.{pos, natAbs}
 use Rattle.faults.specs.Word.{bit}
@@ -33,7 +34,8 @@ inMotorRun past = eqb (memoryOf words past .shown) 4
 abbrev pub stalls : List ℕ → Tick → Bool
 stalls s t = leb (setting 13 s) (natAbs (t .«trq_ref»)) && leb (natAbs (t .speed)) 4095
 
--- "consecutive ticks", of "only ticks taken in MOTORRUN, from zero at each entry": a cycle and a refused call are no ticks
+-- "consecutive ticks", of "only ticks taken in MOTORRUN, from zero at each entry": any other tick ends the row, and so does an accepted
+-- load; a cycle and a refused call are no ticks
 abbrev pub oneMore : (numbers : List ℕ) (running : Bool) → Asked Tick → ℕ → ℕ
 oneMore s running (load numbers) before = 0
 oneMore s running (tick t) before = cond (running && stalls s t) (suc before) 0
@@ -72,9 +74,9 @@ FlagSevenIsShown =
     (call : Call) (earlier : List Call)
     → bit 7 (machine .answer (stateAfter machine earlier) call .live) ≡ shows7 (log machine (call ∷ earlier))
 
--- ---- a tick that is taken in MOTORRUN, exactly
+-- ---- the answer to an accepted tick that is taken in MOTORRUN, after any sequence of calls from power-up
 
--- the same tick without torque: it is held by nothing, for MotorLim is at least 1
+-- the same tick with TrqRef 0: it never stalls, for a loaded MotorLim is at least 1
 abbrev pub slack : Tick → Tick
 slack t =
     record {
@@ -115,7 +117,7 @@ module _ (earlier : List Call) (t : Tick) where
   abbrev loaded : List ℕ
   loaded = numbersOf (log machine earlier)
 
-  -- the row of held ticks is long enough with this one
+  -- the row of stalled ticks is long enough with this one
   abbrev pub long : Bool
   long = leb (lockTicks loaded) (stalledFor (log machine (ticks t ∷ earlier)))
 
@@ -124,9 +126,10 @@ module _ (earlier : List Call) (t : Tick) where
     pub shown : bit 7 (answered earlier t .live) ≡ (enabled 7 loaded && long)
     -- "any live flag moves to FAULT. Else .. a low moves to STOP. Else: .. 4 MOTORRUN: stays."
     pub moves : answered earlier t .state ≡ cond (eqb (answered earlier t .live) 0) (cond (lowOf loaded t) 1 4) 5
-    -- masked or not, the flag stands
-    pub stands : T long → T (bit 7 (machine .step (stateAfter machine earlier) (ticks t) .flags))
-    -- "no low and no other cause": the drive would run on without the torque. Then the torque makes this trip, or nothing.
+    -- masked or not, the flag is in the state that this tick leaves just where it was before, or the row is long enough
+    pub stands :
+        bit 7 (machine .step (stateAfter machine earlier) (ticks t) .flags) ≡ (bit 7 (stateAfter machine earlier .flags) || long)
+    -- where the drive would run on without this tick's torque, the torque makes exactly this trip, or changes nothing of the answer
     pub alone :
         answered earlier (slack t) .state ≡ 4
         → answered earlier t
@@ -141,40 +144,56 @@ FlagSevenIsExact =
 
 -- ---- a whole row: "in MOTORRUN .. for 10 x RotorLockTime accepted ticks in a row, no low and no other cause"
 
--- a tick that is accepted after these calls stalls, and without its torque the drive would run on; nothing is asked of any other call
-abbrev pub held : List Call → Call → Type 0
-held earlier (loads numbers) = Unit {0}
-held earlier (cycles fields) = Unit {0}
-held earlier (ticks t) =
-    answered earlier t .number ≡ 0
-    → T (stalls (numbersOf (log machine earlier)) t)
-    × (answered earlier (slack t) .state ≡ 4)
-held earlier (blockLoads image block) = Unit {0}
+-- the same calls with no torque in any tick
+abbrev pub slackened : Call → Call
+slackened (loads numbers) = loads numbers
+slackened (cycles fields) = cycles fields
+slackened (ticks t) = ticks (slack t)
+slackened (blockLoads image block) = blockLoads image block
 
--- each of these calls, the newest first, that are made after the earlier ones
+-- these calls, the newest first, made without torque after the earlier ones
+abbrev pub torqueless : (row earlier : List Call) → List Call
+torqueless row earlier = map slackened row ++ earlier
+
+-- "no low and no other cause": a tick that is accepted without torque, after calls without torque, leaves the drive in MOTORRUN. With its
+-- torque, which is one that a tick may have, it stalls. Of no other call anything is asked.
+abbrev pub held : (numbers : List ℕ) (torqueless : List Call) → Call → Type 0
+held s past (loads numbers) = Unit {0}
+held s past (cycles fields) = Unit {0}
+held s past (ticks t) =
+    answered past (slack t) .number ≡ 0
+    → (natAbs (t .«trq_ref») ≤ 4095) × T (stalls s t) × (answered past (slack t) .state ≡ 4)
+held s past (blockLoads image block) = Unit {0}
+
+-- each of these calls
 unfoldable pub Row : (row earlier : List Call) → Type 0
 Row [] earlier = Unit {0}
-Row (call ∷ row) earlier = held (row ++ earlier) call × Row row earlier
+Row (call ∷ row) earlier = held (numbersOf (log machine earlier)) (torqueless row earlier) call × Row row earlier
 
--- how many accepted ticks are among them
+-- how many ticks among them are accepted without torque
+abbrev pub ticksNow : List Call → Call → Bool
+ticksNow past call = isTick words (heard words (record { call = call; answer = machine .answer (stateAfter machine past) call }))
+
 unfoldable pub taken : (row earlier : List Call) → ℕ
 taken [] earlier = 0
 taken (call ∷ row) earlier =
-    cond (isTick words (heard words (record { call = call; answer = machine .answer (stateAfter machine (row ++ earlier)) call })))
-    (suc (taken row earlier))
-    (taken row earlier)
+    cond (ticksNow (torqueless row earlier) (slackened call)) (suc (taken row earlier)) (taken row earlier)
 
--- From MOTORRUN on, whatever calls come between the ticks: the tick that makes the row long enough trips by flag 7 alone; where bit 7 is
--- masked the drive runs on, as it would without the torque, and the flag stands.
+-- From MOTORRUN on, whatever calls come between the ticks: what is answered to the tick that makes the row long enough, by what is answered
+-- without any torque. It is a trip by flag 7 alone; where bit 7 is masked the drive runs on as it would without torque, and the flag stands.
+module _ (earlier row : List Call) (t : Tick) where
+  abbrev alike : Answer
+  alike = answered (torqueless row earlier) (slack t)
+
+  pub record Reported : Type 0 where
+    pub answers : answered (row ++ earlier) t ≡ cond (enabled 7 (numbersOf (log machine earlier))) (trippedBy7 alike) alike
+    pub stands : T (bit 7 (machine .step (stateAfter machine (row ++ earlier)) (ticks t) .flags))
+
 abbrev pub StalledPumpIsReported : Type 0
 StalledPumpIsReported =
     (earlier row : List Call) (t : Tick)
     → T (inMotorRun (log machine earlier))
     → Row (ticks t ∷ row) earlier
-    → answered (row ++ earlier) t .number ≡ 0
+    → answered (torqueless row earlier) (slack t) .number ≡ 0
     → stalledFor (log machine earlier) + suc (taken row earlier) ≡ lockTicks (numbersOf (log machine earlier))
-    → (answered (row ++ earlier) t
-    ≡ cond (enabled 7 (numbersOf (log machine earlier)))
-    (trippedBy7 (answered (row ++ earlier) (slack t)))
-    (answered (row ++ earlier) (slack t)))
-    × T (bit 7 (machine .step (stateAfter machine (row ++ earlier)) (ticks t) .flags))
+    → Reported earlier row t
