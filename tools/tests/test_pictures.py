@@ -32,11 +32,11 @@ COLD_START = """\
 record 1      loaded: mode 1, 1 retry allowed
 record 68     start: permitted by the low command at record 67
 record 72     gates: drive
-record 1696   trip: rotor locked: TrqRef at MotorLim, speed at most 4095 (bit 7)
+record 1696   trip: rotor locked for RotorLockTime: torque at MotorLim, speed within 4095 (bit 7)
 record 11696  FAULT left: timed retry 1 of 1; no live cause stood
 record 11697  start: permitted by the timed retry at record 11696; no low was held since the trip
 record 11701  gates: drive
-record 12205  trip: rotor locked: TrqRef at MotorLim, speed at most 4095 (bit 7)
+record 12205  trip: rotor locked for RotorLockTime: torque at MotorLim, speed within 4095 (bit 7)
 record 22207  FAULT left: clear
 record 22209  start: permitted by the low command at record 22208
 record 22213  gates: drive

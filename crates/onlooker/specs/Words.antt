@@ -41,7 +41,7 @@ asked (ticks fields) = tick fields
 asked (blockLoads image block) = load (asLoaded (stored image block))
 
 -- the loaded numbers by the paper's places: 1 ControlMode, 2 FaultEnable, 3 VdcOvLevel, 4 VdcLvLevel, 5 CriticalOvLevel, 6 Tshutdown,
--- 21 CmdStart, 22 CmdStop, 24 RetryLimit, 25 the number of sensors
+-- 7 RotorLockTime, 13 MotorLim, 21 CmdStart, 22 CmdStop, 24 RetryLimit, 25 the number of sensors
 abbrev pub setting : ℕ → List ℕ → ℕ
 setting n s = getD s (n - 1) 0
 

@@ -97,7 +97,7 @@ pub(crate) fn put_line(
 // What may stand behind a sentence, each with its blank in front: what a field of a tick and of a cycle may be, by its place from 1, and
 // the pattern of two sensors; the bits of the live word, bit 15 once more; what the gates do; what a setting may be, by its place, and
 // place 0 is all of them; the refusals that have no place; what the papers have no words for; and what stands between two bits.
-const WORDS: [u8; 1891] = *b"
+const WORDS: [u8; 1908] = *b"
  no field
  gate_kill is 0..1
  clear is 0..1
@@ -122,7 +122,7 @@ const WORDS: [u8; 1891] = *b"
  Flx_M out of 512..8192 in eight slots in a row (bit 4)
  a bit without a meaning (bit 5)
  temperature above Tshutdown (bit 6)
- rotor locked: TrqRef at MotorLim, speed at most 4095 (bit 7)
+ rotor locked for RotorLockTime: torque at MotorLim, speed within 4095 (bit 7)
  a bit without a meaning (bit 8)
  a bit without a meaning (bit 9)
  a bit without a meaning (bit 10)

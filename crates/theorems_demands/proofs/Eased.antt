@@ -2,11 +2,10 @@
 -- for flag 7 itself, where it is masked. So a tick without torque is answered alike by both, and they stay alike.
 use mathlib.Core.Path.{_≡_, refl, sym, subst, ap, _∙_}
 use mathlib.Core.Bool.{Bool, true, false, _&&_, _||_, false≢true, and-or-distrib-right}
-use mathlib.Core.List.{List}
 use Prim.Native.Nat.{ℕ}
 use lib.Bits.{or-zero-r}
 use lib.Dec.{T}
-use lib.Ieee.Bits.{is-true, is-false}
+use lib.Ieee.Bits.{is-true}
 use Rattle.faults.specs.Word.{bit, flag, _or_, any}
 use Rattle.faults.proofs.Joined.{or-swap, or-assoc, live-each, live-flag}
 use Rattle.states.specs.States.{is}

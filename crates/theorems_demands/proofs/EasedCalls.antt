@@ -10,7 +10,6 @@ use mir.Facts.{T-not, eqb-yes}
 use Rattle.numbers.proofs.Tests.{fails-right}
 use Rattle.states.specs.States.{is}
 use Rattle.states.proofs.Every.{at-every}
-use Rattle.fields.specs.declared.Cycle.{Cycle}
 use Rattle.fields.specs.declared.Tick.{Tick}
 use Rattle.verdicts.specs.Table.{verdict}
 use Rattle.verdicts.specs.declared.Verdict.{Verdict}

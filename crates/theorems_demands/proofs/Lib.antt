@@ -26,3 +26,4 @@ pub mod WrongDrives
 pub mod WrongBlockLoads
 pub mod WrongFlags
 pub mod WrongStalls
+pub mod WrongRows

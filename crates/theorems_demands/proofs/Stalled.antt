@@ -1,12 +1,10 @@
 -- A stalled pump is reported: flag 7 is what the log tells, exactly, and a whole row of held ticks leads to it.
 use mathlib.Core.Path.{_≡_, refl, sym, ap, _∙_}
 use mathlib.Core.Bool.{Bool, true, false, not, _&&_, cond, and-comm, _||_}
-use mathlib.Core.List.{List, [], _∷_, _++_}
-use Prim.Native.Nat.{ℕ, _+_}
+use mathlib.Core.List.{List}
+use Prim.Native.Nat.{ℕ}
 use native.Mathlib.Omega.{arith}
-use lib.Dec.{T, eqb, ltb}
-use lib.IntN.{natAbs}
-use lib.ListN.{take, drop}
+use lib.Dec.{T, eqb}
 use lib.Ieee.Bits.{is-true}
 use Rattle.faults.specs.Word.{bit, flag, _or_}
 use Rattle.faults.proofs.Bits.{bit-or}
@@ -14,20 +12,15 @@ use Rattle.states.specs.States.{is}
 use Rattle.states.proofs.Every.{at-every}
 use Rattle.settings.specs.Settings.{FaultEnable}
 use Rattle.fields.specs.declared.Tick.{Tick}
-use Rattle.verdicts.specs.Table.{Row, row, verdict}
-use Rattle.verdicts.specs.declared.Verdict.{Verdict}
-use Rattle.verdicts.proofs.Passed.{Passed, passed, none-holds}
-use Rattle.drive.specs.Answer.{answer, reply as replied}
+use Rattle.verdicts.specs.Table.{verdict}
+use Rattle.drive.specs.Answer.{answer}
 use Rattle.drive.specs.Command.{low}
 use Rattle.drive.specs.Refusals.{tickRows}
-use Rattle.drive.specs.Calls.{settle}
 use Rattle.drive.specs.Ticks.{raised, ticked}
-use Rattle.drive.specs.Ticks as TickCalls
 use Rattle.drive.specs.Flags.{alive}
 use Rattle.drive.specs.AnyCall.{Call, ticks}
 use Rattle.drive.specs.declared.Drive.{Drive}
 use Rattle.drive.specs.declared.answer.Reply.{Reply}
-use Rattle.drive.proofs.Settles.{settles}
 use Rattle.theorems_history.specs.Log.{stateAfter, log}
 use Rattle.theorems_history.specs.Onlooker.{memoryOf}
 use Rattle.theorems_reached.specs.Machine.{machine}

@@ -1,6 +1,6 @@
 -- A whole row of held ticks, from MOTORRUN on, with whatever calls between them: none of these ends it before flag 7 does.
 use mathlib.Core.Path.{_≡_, refl, sym, ap, _∙_}
-use mathlib.Core.Bool.{Bool, true, false, not, _&&_, _||_, cond, and-true}
+use mathlib.Core.Bool.{Bool, true, false, not, _&&_, cond, and-true}
 use mathlib.Core.List.{List, [], _∷_, _++_}
 use Prim.Native.Nat.{ℕ, suc, _+_}
 use native.Mathlib.Omega.{arith}
@@ -14,14 +14,11 @@ use Rattle.states.proofs.Every.{at-every}
 use Rattle.fields.specs.declared.Cycle.{Cycle}
 use Rattle.fields.specs.declared.Tick.{Tick}
 use Rattle.verdicts.specs.Table.{verdict}
-use Rattle.verdicts.proofs.Passed.{both-passed}
-use Rattle.images.specs.Image.{fifteen}
-use Rattle.images.specs.Reads.{readRows}
 use Rattle.faults.specs.Word.{bit}
 use Rattle.drive.specs.Answer.{answer, reply as replied}
 use Rattle.drive.specs.Refusals.{tickRows}
 use Rattle.drive.specs.Calls.{cycled}
-use Rattle.drive.specs.Blocks.{blockNumbers, marked}
+use Rattle.drive.specs.Blocks.{marked}
 use Rattle.drive.specs.Ticks.{ticked}
 use Rattle.drive.specs.AnyCall.{Call, loads, cycles, ticks, blockLoads, reply}
 use Rattle.drive.specs.declared.Drive.{Drive}
@@ -32,13 +29,12 @@ use Rattle.theorems_history.specs.Onlooker.{tick, neither, heard, isTick, memor
 use Rattle.theorems_reached.specs.Machine.{machine}
 use Rattle.theorems_reached.specs.Reached.{Loaded}
 use Rattle.theorems_reached.proofs.Keeps.{every-reached}
-use Rattle.theorems_reached.proofs.Loads.{accepted-state}
 use Rattle.onlooker.specs.Words.{words, asked, enabled}
 use Rattle.theorems_demands.specs.Stalled.{inMotorRun, numbersOf, stalls, stalledFor, lockTicks, slack, answered, trippedBy7}
 use Rattle.theorems_demands.specs.Stalled.{long, slackened, torqueless, held, Row, ticksNow, taken, StalledPumpIsReported}
 use Rattle.theorems_demands.proofs.Lawful.{remembered}
 use Rattle.theorems_demands.proofs.Shown.{made}
-use Rattle.theorems_demands.proofs.Torque.{unrefused, accepted, without, with-torque}
+use Rattle.theorems_demands.proofs.Torque.{unrefused, accepted, with-torque}
 use Rattle.theorems_demands.proofs.Eased.{Alike, itself, answered-alike, ticked-alike}
 use Rattle.theorems_demands.proofs.EasedCalls.{no-load, no-block-load, no-tick-either, still-alike}
 use Rattle.theorems_demands.proofs.Stalled.{flag-seven-is-exact}

@@ -1,8 +1,8 @@
 -- A tick with its torque and without: it is accepted or refused alike, where the torque is one that a tick may have.
-use mathlib.Core.Path.{_≡_, refl}
+use mathlib.Core.Path.{_≡_}
 use mathlib.Core.Bool.{false, not}
 use mathlib.Core.List.{List, [], _∷_, _++_}
-use Prim.Native.Nat.{ℕ, _≤_}
+use Prim.Native.Nat.{_≤_}
 use native.Mathlib.Omega.{arith}
 use lib.Dec.{T, ltb, not-T}
 use lib.IntN.{natAbs}
@@ -56,9 +56,13 @@ module _ (d : Drive) (t : Tick) where
   pub without : verdict (tickRows d t) .number ≡ 0 → verdict (tickRows d (slack t)) .number ≡ 0
   without none =
       let rows : List Row = tickRows d t in
-      none-holds (tickRows d (slack t)) (passed-with (take 9 rows) torqueRow (row 1 9 false) (drop 10 rows) (passed rows tt none) tt)
+      none-holds (tickRows d (slack t))
+      (passed-with (take 9 rows) torqueRow (row 1 9 false) (drop 10 rows) (passed rows tt none) tt)
 
-  pub with-torque : natAbs (t .«trq_ref») ≤ 4095 → verdict (tickRows d (slack t)) .number ≡ 0 → verdict (tickRows d t) .number ≡ 0
+  pub with-torque :
+      natAbs (t .«trq_ref») ≤ 4095
+      → verdict (tickRows d (slack t)) .number ≡ 0
+      → verdict (tickRows d t) .number ≡ 0
   with-torque small none =
       let rows : List Row = tickRows d (slack t) in
       none-holds (tickRows d t)

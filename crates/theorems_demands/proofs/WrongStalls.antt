@@ -30,7 +30,7 @@ use Rattle.theorems_demands.specs.Stalled.{Log, inMotorRun, stalledFor, 
 use Rattle.theorems_demands.proofs.Computes.{computes}
 use Rattle.theorems_demands.proofs.WrongDrives.{Replies, Row}
 
--- ---- drives that misjudge a tick: what it has of these is seen without its torque, or as another
+-- ---- drives that misread a tick that is taken in MOTORRUN: as one without torque, or at another speed
 
 abbrev misread : (Drive → Tick → Tick) → Replies
 misread read d (loads numbers) = reply d (loads numbers)
@@ -61,7 +61,7 @@ atSpeed speed t =
 -- ---- drives that miscount, or misreport
 
 -- the same drive in this state, with these flags and this count of held ticks
-abbrev with : State → ℕ → ℕ → Drive → Drive
+abbrev pub with : State → ℕ → ℕ → Drive → Drive
 with state flags count d =
     let run : Run = d .run in
     becomes d state (d .hall) flags (d .cycles) (d .ticks) (d .offsets)
@@ -75,7 +75,7 @@ with state flags count d =
     (d .retries)
 
 -- this drive, but that where the test holds of a call and its reply, the state that it leaves is changed, and shown as it is
-abbrev changed : (Drive → Call → Reply → Bool) → (Drive → Drive → Drive) → Replies
+abbrev pub changed : (Drive → Call → Reply → Bool) → (Drive → Drive → Drive) → Replies
 changed test change d call =
     let r : Reply = reply d call in
     cond (test d call r) (replied (r .answer .number) (r .answer .place) (change d (r .drive))) r
@@ -85,17 +85,17 @@ abbrev recounted : (ℕ → ℕ) → Drive → Drive → Drive
 recounted count before d = with (d .state) (d .flags) (count (before .run .«rotor_lock_ticks»)) d
 
 -- it is in this state, with or without its flags
-abbrev put : State → Bool → Drive → Drive → Drive
+abbrev pub put : State → Bool → Drive → Drive → Drive
 put state flagged before d = with state (cond flagged (d .flags) 0) (before .run .«rotor_lock_ticks») d
 
-abbrev isCycle : Call → Bool
+abbrev pub isCycle : Call → Bool
 isCycle (loads numbers) = false
 isCycle (cycles fields) = true
 isCycle (ticks fields) = false
 isCycle (blockLoads image block) = false
 
 -- a tick of which this holds
-abbrev isTickWith : (Tick → Bool) → Call → Bool
+abbrev pub isTickWith : (Tick → Bool) → Call → Bool
 isTickWith test (loads numbers) = false
 isTickWith test (cycles fields) = false
 isTickWith test (ticks fields) = test fields
@@ -121,21 +121,20 @@ sets d call r = not (bit 7 (d .flags)) && bit 7 (r .drive .flags)
 abbrev coldLoad : (mask limit least : ℕ) → Call
 coldLoad mask limit least =
     loads
-    (0 ∷ mask ∷ 3000 ∷ 1000 ∷ 3500 ∷ 3500 ∷ 1 ∷ 800 ∷ 100 ∷ 0 ∷ least ∷ 64 ∷
+    (0 ∷ mask ∷ 3000 ∷ 1000 ∷ 3500 ∷ 3500 ∷ 1 ∷ 800 ∷ 100 ∷ 0 ∷ least ∷ 20480 ∷
     limit ∷ 7 ∷ 3 ∷ 0 ∷ 300 ∷ 0 ∷ 0 ∷ 0 ∷ 400 ∷ 300 ∷ 4096 ∷ 2 ∷ [])
 
 -- a start with it, one tick short of MOTORRUN; and in MOTORRUN
-abbrev cold : (mask limit least : ℕ) → List Call
+abbrev pub cold : (mask limit least : ℕ) → List Call
 cold mask limit least = ready (coldLoad mask limit least) ++ started 4
 
 abbrev running : List Call
 running = cold 65535 4095 600 ++ (high ∷ [])
 
--- a tick with this command, control, torque and speed; a control of 4096 is refused
-abbrev tickWith : ℕ → ℕ → ℤ → ℤ → Call
-tickWith command control torque speed =
-    ticks
-    (record {
+-- the fields of a tick with this command, control, torque and speed; a control of 4096 is refused
+abbrev fieldsWith : ℕ → ℕ → ℤ → ℤ → Tick
+fieldsWith command control torque speed =
+    record {
       «gate_kill» = 0;
       clear = 0;
       command = command;
@@ -147,13 +146,19 @@ tickWith command control torque speed =
       «trq_ref» = torque;
       speed = speed;
       target = pos 700;
-    })
+    }
+
+abbrev tickWith : ℕ → ℕ → ℤ → ℤ → Call
+tickWith command control torque speed = ticks (fieldsWith command control torque speed)
 
 abbrev tickAt : ℤ → ℤ → Call
 tickAt = tickWith 1 400
 
+abbrev pub heldTick : Tick
+heldTick = fieldsWith 1 400 (pos 4095) (pos 0)
+
 abbrev held : Call
-held = tickAt (pos 4095) (pos 0)
+held = ticks heldTick
 
 abbrev refused : Call
 refused = tickWith 1 4096 (pos 4095) (pos 0)

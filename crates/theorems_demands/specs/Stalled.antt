@@ -179,8 +179,9 @@ taken [] earlier = 0
 taken (call ∷ row) earlier =
     cond (ticksNow (torqueless row earlier) (slackened call)) (suc (taken row earlier)) (taken row earlier)
 
--- From MOTORRUN on, whatever calls come between the ticks: what is answered to the tick that makes the row long enough, by what is answered
--- without any torque. It is a trip by flag 7 alone; where bit 7 is masked the drive runs on as it would without torque, and the flag stands.
+-- From MOTORRUN on, whatever calls come between the ticks: what is answered to the tick that makes the row long enough, by what would be
+-- answered without any torque. It is a trip by flag 7 alone; where bit 7 is masked the drive runs on as it would without torque, and the
+-- flag stands.
 module _ (earlier row : List Call) (t : Tick) where
   abbrev alike : Answer
   alike = answered (torqueless row earlier) (slack t)

@@ -119,7 +119,7 @@ def small_pump(story: Story) -> None:
 
 def cold_start(story: Story) -> None:
     """The melt is cold and the shaft stands, at speed 0: M-103."""
-    locked = "rotor locked: TrqRef at MotorLim, speed at most 4095 (bit 7)"
+    locked = "rotor locked for RotorLockTime: torque at MotorLim, speed within 4095 (bit 7)"
     story.load("loaded: mode 1, 2 retries allowed", ControlMode=1, RotorLockTime=1, MotorLim=3000)
     story.low()
     for _ in range(64):
