@@ -106,8 +106,11 @@ module _ (d : Drive) (r : Reached d) (log : Log) (told : Told d log) where
   noted (cycles c) number at left given = refl
   noted (ticks t) number at left given = refl
   noted (blockLoads image block) number at left given =
-      rw (given, finds-read image block, ← told .asleep)
-      (ap (λ (found : Bool). found && is 0 (d .state)) (and-true (isRead fifteen image block)))
+      let found : (finds (blockLoads image block) && not (eqb number 0)) ≡ isRead fifteen image block =
+      rw (given, finds-read image block) (and-true (isRead fifteen image block))
+      in
+      ap (λ (reads : Bool). reads && not (loadedYet log)) found
+      ∙ ap (λ (asleep : Bool). isRead fifteen image block && asleep) (sym (told .asleep))
 
   refused : (call : Call) (number at : ℕ) → T (not (marks d call)) → eqb number 0 ≡ false
       → Told d (made call (answer number at d) ∷ log)
