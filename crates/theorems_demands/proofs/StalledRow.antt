@@ -1,14 +1,14 @@
 -- A whole row of held ticks, from MOTORRUN on, with whatever calls between them: none of these ends it before flag 7 does.
 use mathlib.Core.Path.{_≡_, refl, sym, ap, _∙_}
-use mathlib.Core.Bool.{Bool, true, false, not, _&&_, cond, and-true}
+use mathlib.Core.Bool.{Bool, true, false, not, _&&_, cond}
 use mathlib.Core.List.{List, [], _∷_, _++_}
 use Prim.Native.Nat.{ℕ, suc, _+_}
 use native.Mathlib.Omega.{arith}
 use native.Mathlib.Nat.{add-suc}
-use lib.Dec.{T, eqb, leb, not-T, le→leb}
+use lib.Dec.{T, eqb, leb, le→leb}
 use lib.Ieee.Bits.{is-true, is-false}
 use mir.Facts.{T-not, and-yes, yes-and, eqb-yes, leb-yes}
-use Rattle.numbers.proofs.Tests.{decide, contrary, or-right, fails-right}
+use Rattle.numbers.proofs.Tests.{decide, contrary, or-right}
 use Rattle.states.specs.States.{is}
 use Rattle.states.proofs.Every.{at-every}
 use Rattle.fields.specs.declared.Cycle.{Cycle}
@@ -270,23 +270,14 @@ module _ (earlier : List Call) (runs : T (inMotorRun (log machine earlier))) whe
 
 pub stalled-pump-is-reported : StalledPumpIsReported
 unfolding Row
-stalled-pump-is-reported earlier row t runs (holds, all) free full =
-    let s : List ℕ = numbersOf (log machine earlier) in
-    let count : ℕ = stalledFor (log machine earlier) + taken row earlier in
-    let short : T (not (due earlier runs (taken row earlier))) =
-    fails-right (enabled 7 s) (leb (lockTicks s) count)
-    (not-T (leb (lockTicks s) count) (λ enough. omega (arith, full, leb-yes {a = lockTicks s} {b = count} enough)))
-    in
+stalled-pump-is-reported earlier row t runs (holds, all) free short =
     let going = goes earlier runs row all short in
-    let next : ℕ = stalledFor (log machine earlier) + suc (taken row earlier) in
-    let enough : leb (lockTicks s) next ≡ true = is-true (leb (lockTicks s) next) (le→leb (lockTicks s) next (omega (arith, full))) in
-    let set : due earlier runs (suc (taken row earlier)) ≡ enabled 7 s = rw enough (and-true (enabled 7 s)) in
     let exact =
     flag-seven-is-exact (row ++ earlier) t (going .running) (accepts earlier runs row going t free holds)
     in
     record {
-      answers = rw (← set) (answers earlier runs row going t free holds);
-      stands =
-          rw (exact .stands, long-now earlier runs row going t free holds, enough)
-          (or-right (bit 7 (stateAfter machine (row ++ earlier) .flags)) true tt);
+      answers = answers earlier runs row going t free holds;
+      stands = λ enough.
+          rw (exact .stands, long-now earlier runs row going t free holds)
+          (or-right (bit 7 (stateAfter machine (row ++ earlier) .flags)) _ enough);
     }

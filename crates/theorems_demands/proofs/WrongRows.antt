@@ -24,7 +24,7 @@ use Rattle.theorems_demands.specs.NamedCalls.{shows, high, times}
 use Rattle.theorems_demands.specs.Stalled.{numbersOf, inMotorRun, stalls, stalledFor, lockTicks, slack, trippedBy7, slackened}
 use Rattle.theorems_demands.proofs.Computes.{computes}
 use Rattle.theorems_demands.proofs.WrongDrives.{Replies}
-use Rattle.theorems_demands.proofs.WrongStalls.{changed, with, put, isCycle, isTickWith, cold, heldTick}
+use Rattle.theorems_demands.proofs.WrongStalls.{changed, with, put, isCycle, isTickWith, cold, heldTick, refused}
 
 -- ---- the statement as a test, of any drive
 
@@ -60,8 +60,9 @@ module _ (replies : Replies) where
       inMotorRun past
       && isRow (numbersOf past) (ticks t ∷ row) earlier
       && accepts (map slackened row ++ earlier) (ticks (slack t))
-      && eqb (stalledFor past + suc (taken row earlier)) (lockTicks (numbersOf past))
+      && not (enabled 7 (numbersOf past) && leb (lockTicks (numbersOf past)) (stalledFor past + taken row earlier))
 
+  -- enough of an answer to tell these drives; of this drive the whole is proved (StalledRow.antt)
   abbrev same : Answer → Answer → Bool
   same a b =
       eqb (a .number) (b .number) && eqb (a .place) (b .place) && eqb (a .state) (b .state) && eqb (a .gate) (b .gate)
@@ -69,8 +70,10 @@ module _ (replies : Replies) where
 
   abbrev reported : (earlier row : List Call) → Tick → Bool
   reported earlier row t =
+      let past = log (machineOf replies) earlier in
       let alike : Answer = answered (map slackened row ++ earlier) (ticks (slack t)) in
-      same (answered (row ++ earlier) (ticks t)) (cond (enabled 7 (numbersOf (log (machineOf replies) earlier))) (trippedBy7 alike) alike)
+      let long : Bool = leb (lockTicks (numbersOf past)) (stalledFor past + suc (taken row earlier)) in
+      same (answered (row ++ earlier) (ticks t)) (cond (enabled 7 (numbersOf past) && long) (trippedBy7 alike) alike)
 
 -- ---- the drives
 
@@ -99,38 +102,37 @@ drops before d =
 abbrev deafAfter : ℕ → Replies
 deafAfter n d call = cond (after n d call (reply d call)) (replied 1 9 d) (reply d call)
 
--- a wrong drive, FaultEnable, and the calls between ten held ticks: behind the fifth
+-- a wrong drive, FaultEnable, and a row of calls, the newest first, before a held tick
 abbrev Case : Type 0
 Case = Replies × ℕ × List Call
 
+abbrev held : ℕ → List Call
+held n = times n (ticks heldTick)
+
 abbrev cases : List Case
 cases =
-    -- a trip by flag 14 before flag 7 is due, also where that is masked
-    (changed (after 5) (λ before d. with Fault (2 ^ 14) 0 d), 65535, []) ∷
-    (changed (after 5) (λ before d. with Fault (2 ^ 14) 0 d), 65407, []) ∷
-    -- a masked stall that does not run on as before
-    (changed (after 9) drops, 65407, []) ∷
+    -- a trip by flag 14 before flag 7 is due, also where that is masked, and after it
+    (changed (after 5) (λ before d. with Fault (2 ^ 14) 0 d), 65535, held 9) ∷
+    (changed (after 5) (λ before d. with Fault (2 ^ 14) 0 d), 65407, held 9) ∷
+    (changed (after 10) (λ before d. with Fault (2 ^ 14) 0 d), 65407, held 10) ∷
+    -- a stall in which the reference falls, before flag 7 is due and after it, where it is masked
+    (changed (after 5) drops, 65535, held 5) ∷
+    (changed (after 9) drops, 65407, held 9) ∷
     -- deaf to every tick
-    (deafAfter 5, 65535, []) ∷
-    -- a cycle that leaves MOTORRUN
-    (changed (λ d call r. isCycle call && is 4 (d .state) && leb 5 (counted d)) (put Parking true), 65535, shows 1 ∷ []) ∷
+    (deafAfter 5, 65535, held 9) ∷
+    -- a cycle that leaves MOTORRUN; a refused tick, a refused load and a cycle between
+    (changed (λ d call r. isCycle call && is 4 (d .state) && leb 5 (counted d)) (put Parking true), 65535, held 4 ++ (shows 1 ∷ held 5)) ∷
+    (changed (after 5) (λ before d. with Fault (2 ^ 14) 0 d), 65535, held 4 ++ (refused ∷ loads [] ∷ shows 1 ∷ held 5)) ∷
     []
 
 abbrev earlier : ℕ → List Call
 earlier mask = reverse (cold mask 4095 600 ++ (high ∷ []))
 
-abbrev row : List Call → List Call
-row between = times 4 (ticks heldTick) ++ between ++ times 5 (ticks heldTick)
-
 abbrev told : Case → Bool
-told c =
-    premises (c .0) (earlier (c .1)) (row (c .2)) heldTick
-    && not (reported (c .0) (earlier (c .1)) (row (c .2)) heldTick)
+told c = premises (c .0) (earlier (c .1)) (c .2) heldTick && not (reported (c .0) (earlier (c .1)) (c .2) heldTick)
 
 abbrev right : Case → Bool
-right c =
-    premises reply (earlier (c .1)) (row (c .2)) heldTick
-    && reported reply (earlier (c .1)) (row (c .2)) heldTick
+right c = premises reply (earlier (c .1)) (c .2) heldTick && reported reply (earlier (c .1)) (c .2) heldTick
 
 abbrev each : (Case → Bool) → List Case → Bool
 each test [] = true

@@ -160,7 +160,7 @@ heldTick = fieldsWith 1 400 (pos 4095) (pos 0)
 abbrev held : Call
 held = ticks heldTick
 
-abbrev refused : Call
+abbrev pub refused : Call
 refused = tickWith 1 4096 (pos 4095) (pos 0)
 
 abbrev heldInStop : Call
@@ -222,7 +222,7 @@ abbrev takenInMotorRun : Log → Bool
 takenInMotorRun [] = false
 takenInMotorRun (e ∷ past) = inMotorRun past && isTick words (heard words e)
 
--- `FlagSevenIsShown`, and `moves` of `FlagSeven`: no run holds a low in MOTORRUN
+-- `FlagSevenIsShown`, and `moves` of `FlagSeven` without its low, for no run has a low in MOTORRUN
 abbrev reported : Log → Bool
 reported [] = false
 reported (e ∷ past) =
@@ -248,7 +248,7 @@ pub this-drive-passes : each (λ row. reported (rightly row)) (rows ++ elsewhere
 unfolding judges computes stalledFor shows7
 this-drive-passes = refl
 
--- so there are such ticks: each of the runs above ends with one
+-- so there are such ticks: each run of `rows` ends with one, and none of `elsewhere`
 pub there-are-such : each (λ row. takenInMotorRun (rightly row) && takenInMotorRun (wrongly row)) rows ≡ true
 unfolding judges computes stalledFor
 there-are-such = refl

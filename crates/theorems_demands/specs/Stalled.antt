@@ -34,7 +34,7 @@ inMotorRun past = eqb (memoryOf words past .shown) 4
 abbrev pub stalls : List ℕ → Tick → Bool
 stalls s t = leb (setting 13 s) (natAbs (t .«trq_ref»)) && leb (natAbs (t .speed)) 4095
 
--- "consecutive ticks", of "only ticks taken in MOTORRUN, from zero at each entry": any other tick ends the row, and so does an accepted
+-- "consecutive ticks", of "only ticks taken in MOTORRUN, from zero at each entry": any other accepted tick ends the row, and so does an accepted
 -- load; a cycle and a refused call are no ticks
 abbrev pub oneMore : (numbers : List ℕ) (running : Bool) → Asked Tick → ℕ → ℕ
 oneMore s running (load numbers) before = 0
@@ -155,8 +155,9 @@ slackened (blockLoads image block) = blockLoads image block
 abbrev pub torqueless : (row earlier : List Call) → List Call
 torqueless row earlier = map slackened row ++ earlier
 
--- "no low and no other cause": a tick that is accepted without torque, after calls without torque, leaves the drive in MOTORRUN. With its
--- torque, which is one that a tick may have, it stalls. Of no other call anything is asked.
+-- "no low and no other cause", as the drive itself tells it: a tick of the row that is accepted when neither it nor the row's calls before
+-- it have torque leaves the drive in MOTORRUN. With its own torque, which is one that a tick may have, it stalls. Of any other call nothing
+-- is asked.
 abbrev pub held : (numbers : List ℕ) (torqueless : List Call) → Call → Type 0
 held s past (loads numbers) = Unit {0}
 held s past (cycles fields) = Unit {0}
@@ -170,25 +171,33 @@ unfoldable pub Row : (row earlier : List Call) → Type 0
 Row [] earlier = Unit {0}
 Row (call ∷ row) earlier = held (numbersOf (log machine earlier)) (torqueless row earlier) call × Row row earlier
 
--- how many ticks among them are accepted without torque
+-- the call is a tick, and accepted
 abbrev pub ticksNow : List Call → Call → Bool
 ticksNow past call = isTick words (heard words (record { call = call; answer = machine .answer (stateAfter machine past) call }))
 
+-- how many ticks of the row are accepted without torque
 unfoldable pub taken : (row earlier : List Call) → ℕ
 taken [] earlier = 0
 taken (call ∷ row) earlier =
     cond (ticksNow (torqueless row earlier) (slackened call)) (suc (taken row earlier)) (taken row earlier)
 
--- From MOTORRUN on, whatever calls come between the ticks: what is answered to the tick that makes the row long enough, by what would be
--- answered without any torque. It is a trip by flag 7 alone; where bit 7 is masked the drive runs on as it would without torque, and the
--- flag stands.
+-- From MOTORRUN on, whatever calls come between the ticks, as long as flag 7 has not tripped: the answer to the next tick, compared with
+-- the answer had no tick of the row had torque. Where this tick makes the row long enough it is a trip by flag 7 alone; before that, and
+-- where bit 7 is masked, nothing of the answer differs. The flag stands from then on.
 module _ (earlier row : List Call) (t : Tick) where
   abbrev alike : Answer
   alike = answered (torqueless row earlier) (slack t)
 
+  -- with so many ticks of the row it is long enough
+  abbrev pub enough : ℕ → Bool
+  enough n = leb (lockTicks (numbersOf (log machine earlier))) (stalledFor (log machine earlier) + n)
+
+  abbrev pub on : Bool
+  on = enabled 7 (numbersOf (log machine earlier))
+
   pub record Reported : Type 0 where
-    pub answers : answered (row ++ earlier) t ≡ cond (enabled 7 (numbersOf (log machine earlier))) (trippedBy7 alike) alike
-    pub stands : T (bit 7 (machine .step (stateAfter machine (row ++ earlier)) (ticks t) .flags))
+    pub answers : answered (row ++ earlier) t ≡ cond (on && enough (suc (taken row earlier))) (trippedBy7 alike) alike
+    pub stands : T (enough (suc (taken row earlier))) → T (bit 7 (machine .step (stateAfter machine (row ++ earlier)) (ticks t) .flags))
 
 abbrev pub StalledPumpIsReported : Type 0
 StalledPumpIsReported =
@@ -196,5 +205,5 @@ StalledPumpIsReported =
     → T (inMotorRun (log machine earlier))
     → Row (ticks t ∷ row) earlier
     → answered (torqueless row earlier) (slack t) .number ≡ 0
-    → stalledFor (log machine earlier) + suc (taken row earlier) ≡ lockTicks (numbersOf (log machine earlier))
+    → T (not (on earlier row t && enough earlier row t (taken row earlier)))
     → Reported earlier row t
