@@ -49,7 +49,7 @@ pub record Alike (d other : Drive) : Type 0 where
   pub masked : (set && bit 7 (FaultEnable (d .settings))) ≡ false
 
 -- flags and causes, each with its flag 7
-joined : (f g : ℕ) (x y : Bool) → (f or flag 7 x or (g or flag 7 y)) ≡ (f or (g or 0) or flag 7 (x || y))
+pub joined : (f g : ℕ) (x y : Bool) → (f or flag 7 x or (g or flag 7 y)) ≡ (f or (g or 0) or flag 7 (x || y))
 joined f g false y =
     rw (or-zero-r f, or-zero-r g) (or-assoc f g (flag 7 y))
 joined f g true false = rw (or-zero-r g) (or-swap f (flag 7 true) g)
@@ -99,7 +99,7 @@ module _ (d other : Drive) (a : Alike d other) where
     live-with : (more : ℕ) → alive (d .settings) (d .flags or more) ≡ alive (d .settings) (a .flags or more)
     live-with more =
         let none : (a .set && bit 7 (alwaysLive or FaultEnable (d .settings))) ≡ false =
-        ap (λ (on : Bool). a .set && on) (seven.mask-7 d t) ∙ a .masked
+        ap (λ (on : Bool). a .set && on) (seven.mask-7 (d .settings)) ∙ a .masked
         in
         ap (λ (flags : ℕ). alive (d .settings) (flags or more)) (a .more)
         ∙ ap (alive (d .settings)) (or-swap (a .flags) (flag 7 (a .set)) more)

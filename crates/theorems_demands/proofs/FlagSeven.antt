@@ -42,6 +42,9 @@ no-7 s flags more none =
     ∙ bit-or 7 (alive s flags) (alive s more)
     ∙ rw (bit-and 7 more (alwaysLive or FaultEnable s), none) (or-false (bit 7 (alive s flags)))
 
+pub mask-7 : (s : List ℕ) → bit 7 (alwaysLive or FaultEnable s) ≡ bit 7 (FaultEnable s)
+mask-7 s = bit-or 7 alwaysLive (FaultEnable s)
+
 pub own : (set : Bool) → bit 7 (flag 7 set) ≡ set
 own true = refl
 own false = refl
@@ -76,9 +79,6 @@ module _ (d : Drive) (t : Tick) where
       tt
       7))
 
-  pub mask-7 : bit 7 (alwaysLive or FaultEnable s) ≡ bit 7 (FaultEnable s)
-  mask-7 = bit-or 7 alwaysLive (FaultEnable s)
-
   -- the live word of what the tick raises
   pub live-parted : alive s (raised d t) ≡ (alive s (d .flags or others) or flag 7 (lock && bit 7 (FaultEnable s)))
   live-parted =
@@ -86,7 +86,7 @@ module _ (d : Drive) (t : Tick) where
       ∙ ap (alive s) (or-assoc (d .flags) others (flag 7 lock))
       ∙ live-each alwaysLive (FaultEnable s) (d .flags or others) (flag 7 lock)
       ∙ ap (λ (word : ℕ). alive s (d .flags or others) or word)
-      (live-flag alwaysLive (FaultEnable s) 7 lock ∙ ap (λ (on : Bool). flag 7 (lock && on)) mask-7)
+      (live-flag alwaysLive (FaultEnable s) 7 lock ∙ ap (λ (on : Bool). flag 7 (lock && on)) (mask-7 s))
 
   -- it shows 7 where that was shown before, or stands now
   pub raises-7 : bit 7 (alive s (raised d t)) ≡ (bit 7 (alive s (d .flags)) || lock && bit 7 (FaultEnable s))

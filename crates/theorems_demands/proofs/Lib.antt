@@ -17,6 +17,8 @@ pub mod FlagSeven
 pub mod FlagSevenShown
 pub mod Stalled
 pub mod Eased
+pub mod TorqueAlone
+pub mod TorqueRead
 pub mod EasedCalls
 pub mod StalledRow
 pub mod Computes

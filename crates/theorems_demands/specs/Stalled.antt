@@ -6,14 +6,14 @@
 -- no answer shows and which is read off the drive's state; and what the drive would answer without torque, by which "no low and no other
 -- cause" is told.
 use Prim.Native.Nat.{ℕ, suc, _+_, _*_, _^_, _≤_}
-use mathlib.Core.Bool.{Bool, false, not, _&&_, _||_, cond}
+use mathlib.Core.Bool.{Bool, true, false, not, _&&_, _||_, cond}
 use mathlib.Core.Path.{_≡_}
 use mathlib.Core.List.{List, [], _∷_, _++_, map}
 use lib.Dec.{T, eqb, leb}
 use lib.IntN.{pos, natAbs}
 use Rattle.faults.specs.Word.{bit}
 use Rattle.fields.specs.declared.Tick.{Tick}
-use Rattle.theorems_history.specs.Log.{Entry, stateAfter, log}
+use Rattle.theorems_history.specs.Log.{Entry, stateAfter, entry, log}
 use Rattle.theorems_history.specs.Onlooker.{Asked, load, tick, neither, heard, isLoad, isTick, memoryOf}
 use Rattle.drive.specs.AnyCall.{Call, loads, cycles, ticks, blockLoads}
 use Rattle.drive.specs.declared.answer.Answer.{Answer}
@@ -142,7 +142,7 @@ FlagSevenIsExact =
     → answered earlier t .number ≡ 0
     → FlagSeven earlier t
 
--- ---- a whole row: "in MOTORRUN .. for 10 x RotorLockTime accepted ticks in a row, no low and no other cause"
+-- ---- torque is read by bit 7 alone: after any calls, in any state, of any call
 
 -- the same calls with no torque in any tick
 abbrev pub slackened : Call → Call
@@ -154,6 +154,31 @@ slackened (blockLoads image block) = blockLoads image block
 -- these calls, the newest first, made without torque after the earlier ones
 abbrev pub torqueless : (row earlier : List Call) → List Call
 torqueless row earlier = map slackened row ++ earlier
+
+-- a torque that a tick may have
+abbrev pub mayHave : Call → Bool
+mayHave (loads numbers) = true
+mayHave (cycles fields) = true
+mayHave (ticks t) = leb (natAbs (t .«trq_ref»)) 4095
+mayHave (blockLoads image block) = true
+
+-- none of these calls sets flag 7
+unfoldable pub untripped : (row earlier : List Call) → Bool
+untripped [] earlier = true
+untripped (call ∷ row) earlier =
+    mayHave call
+    && not (sets7 (entry machine (stateAfter machine (row ++ earlier)) call) (log machine (row ++ earlier)))
+    && untripped row earlier
+
+-- then each is answered as it would be without any torque
+abbrev pub TorqueIsReadByBit7Alone : Type 0
+TorqueIsReadByBit7Alone =
+    (earlier row : List Call) (call : Call)
+    → T (untripped (call ∷ row) earlier)
+    → machine .answer (stateAfter machine (row ++ earlier)) call
+    ≡ machine .answer (stateAfter machine (torqueless row earlier)) (slackened call)
+
+-- ---- a whole row: "in MOTORRUN .. for 10 x RotorLockTime accepted ticks in a row, no low and no other cause"
 
 -- "no low and no other cause", as the drive itself tells it: a tick of the row that is accepted when neither it nor the row's calls before
 -- it have torque leaves the drive in MOTORRUN. With its own torque, which is one that a tick may have, it stalls. Of any other call nothing
