@@ -1,40 +1,36 @@
 -- In MOTORRUN a call that is no accepted tick leaves two drives alike that were alike; and it is none for the one where it is none for the
 -- other.
-use mathlib.Core.Path.{_≡_, refl, sym, subst, ap, _∙_}
-use mathlib.Core.Bool.{Bool, true, false, not, _&&_, _||_, cond}
+use mathlib.Core.Path.{_≡_, sym, subst, ap, _∙_}
+use mathlib.Core.Bool.{Bool, true, false, not, _||_, cond}
 use mathlib.Core.List.{List}
 use Prim.Native.Nat.{ℕ}
 use lib.Dec.{T, eqb, not-T}
 use lib.Ieee.Bits.{is-false}
 use mir.Facts.{T-not, eqb-yes}
-use Rattle.numbers.proofs.Tests.{fails-right}
 use Rattle.states.specs.States.{is}
 use Rattle.states.proofs.Every.{at-every}
 use Rattle.fields.specs.declared.Tick.{Tick}
 use Rattle.verdicts.specs.Table.{verdict}
-use Rattle.verdicts.specs.declared.Verdict.{Verdict}
 use Rattle.verdicts.proofs.Passed.{both-passed}
 use Rattle.images.specs.Image.{fifteen}
-use Rattle.images.specs.Reads.{readRows, isRead}
-use Rattle.drive.specs.Answer.{answer, reply as replied}
-use Rattle.drive.specs.Refusals.{loadRows, cycleRows, tickRows}
-use Rattle.drive.specs.Calls.{settle, cycled}
-use Rattle.drive.specs.Calls
-use Rattle.drive.specs.Blocks.{blockNumbers, blockRows, leftByBlock}
-use Rattle.drive.specs.Blocks
+use Rattle.images.specs.Reads.{readRows}
+use Rattle.drive.specs.Answer.{answer}
+use Rattle.drive.specs.Refusals.{loadRows, tickRows}
+use Rattle.drive.specs.Blocks.{blockNumbers, blockRows}
 use Rattle.drive.specs.Ticks.{ticked}
 use Rattle.drive.specs.Ticks as TickCalls
 use Rattle.drive.specs.AnyCall.{Call, loads, cycles, ticks, blockLoads, reply}
 use Rattle.drive.specs.declared.Drive.{Drive}
 use Rattle.drive.specs.declared.answer.Reply.{Reply}
-use Rattle.drive.proofs.Settles.{settles, refusal}
+use Rattle.drive.proofs.Settles.{refusal}
 use Rattle.theorems_history.specs.Onlooker.{Asked, tick, neither, heard, isTick}
 use Rattle.theorems_reached.proofs.Loads.{accepted-state}
 use Rattle.onlooker.specs.Words.{words, asked}
 use Rattle.theorems_demands.specs.Stalled.{slack, slackened}
 use Rattle.theorems_demands.proofs.Shown.{made}
 use Rattle.theorems_demands.proofs.Torque.{unrefused, accepted, without}
-use Rattle.theorems_demands.proofs.Eased.{Alike, cycled-alike}
+use Rattle.theorems_demands.proofs.Eased.{Alike}
+use Rattle.theorems_demands.proofs.TorqueRead.{replies-same}
 
 -- ---- what a call leaves in MOTORRUN
 
@@ -50,20 +46,6 @@ module _ (d : Drive) (running : T (is 4 (d .state))) where
   no-block-load image block none =
       no-load (blockNumbers image block)
       (both-passed (readRows fifteen image block) (loadRows d (blockNumbers image block)) tt none .1)
-
-  load-leaves : (numbers : List ℕ) → reply d (loads numbers) .drive ≡ d
-  unfolding Calls.load
-  load-leaves numbers =
-      settles (λ (a : Reply). a .drive ≡ d) (verdict (loadRows d numbers)) _ d (no-load numbers) (λ given. refl)
-
-  block-load-leaves : (image : List ℕ) (block : ℕ) → reply d (blockLoads image block) .drive ≡ d
-  unfolding Blocks.blockLoad
-  block-load-leaves image block =
-      let awake = at-every (is 4) (λ s. not (is 0 s)) tt (d .state) running in
-      settles (λ (a : Reply). a .drive ≡ d) (verdict (blockRows d image block)) _ (leftByBlock d image block)
-      (no-block-load image block)
-      (λ given.
-      rw (is-false (isRead fifteen image block && is 0 (d .state)) (fails-right (isRead fifteen image block) (is 0 (d .state)) awake)))
 
 -- a refused tick, anywhere
 tick-leaves : (d : Drive) (t : Tick) → (reply d (ticks t) .answer .number ≡ 0 → ⊥) → reply d (ticks t) .drive ≡ d
@@ -104,29 +86,13 @@ module _ (d other : Drive) (a : Alike d other) (running : T (is 4 (d .state))) w
   no-tick-either (blockLoads image block) none =
       hears-none (eqb (reply d (blockLoads image block) .answer .number) 0) (asked (blockLoads image block)) tt
 
-  both-settle :
-      (v : Verdict) (next next′ : Drive)
-      → Alike next next′
-      → Alike (settle v next d .drive) (settle v next′ other .drive)
-  both-settle v next next′ then = go (eqb (v .number) 0)
-    where
-      go : (test : Bool)
-          → Alike (cond test (replied 0 0 next) (replied (v .number) (v .place) d) .drive)
-          (cond test (replied 0 0 next′) (replied (v .number) (v .place) other) .drive)
-      go true = then
-      go false = a
-
   pub still-alike : (call : Call) → NoTick call → Alike (reply d call .drive) (reply other (slackened call) .drive)
-  unfolding Calls.cycle
-  still-alike (loads numbers) none = rw (load-leaves d running numbers, load-leaves other running-too numbers) a
-  still-alike (cycles c) none =
-      let rows-alike = ap (λ (drive : Drive). verdict (cycleRows drive c)) (a .same) in
-      rw rows-alike (both-settle (verdict (cycleRows d c)) (cycled d c) (cycled other c) (cycled-alike d other a c))
+  still-alike (loads numbers) none = replies-same d other a (loads numbers) tt tt .leaves
+  still-alike (cycles c) none = replies-same d other a (cycles c) tt tt .leaves
   still-alike (ticks t) none =
       rw (
         tick-leaves d t (λ taken. refused-too t none (accepted-too t taken)),
         tick-leaves other (slack t) (refused-too t none),
       )
       a
-  still-alike (blockLoads image block) none =
-      rw (block-load-leaves d running image block, block-load-leaves other running-too image block) a
+  still-alike (blockLoads image block) none = replies-same d other a (blockLoads image block) tt tt .leaves

@@ -1,6 +1,6 @@
 -- A tick that is taken in MOTORRUN, with and without its torque: flag 7 is all the difference that the torque makes.
 use mathlib.Core.Path.{_≡_, refl, sym, ap, _∙_}
-use mathlib.Core.Bool.{Bool, true, false, _&&_, _||_, cond, or-false}
+use mathlib.Core.Bool.{Bool, true, false, _&&_, _||_, cond, or-false, false≢true}
 use mathlib.Core.List.{List, [], _∷_, _++_}
 use Prim.Native.Nat.{ℕ, _+_, _/_, _%_, _^_}
 use native.Mathlib.Omega.{arith}
@@ -95,6 +95,19 @@ module _ (d : Drive) (t : Tick) where
       ∙ bit-or 7 (alive s (d .flags or others)) (flag 7 (lock && bit 7 (FaultEnable s)))
       ∙ rw (no-7 s (d .flags) others not-among, own (lock && bit 7 (FaultEnable s)))
 
+-- without torque nothing is counted for bit 7
+pub unlocked : (d : Drive) (t : Tick) → Loaded (d .settings) → lock d (slack t) ≡ false
+unfolding watched
+unlocked d t loaded =
+    let held : Bool = locked (d .settings) (slack t) in
+    let not-held : held ≡ false =
+    is-false held
+    (fails-left (leb (MotorLim (d .settings)) 0) (leb (natAbs (t .speed)) 4095)
+    (not-T (leb (MotorLim (d .settings)) 0)
+    (λ none. omega (arith, leb-yes {a = MotorLim (d .settings)} {b = 0} none, at-least loaded 12 (omega arith)))))
+    in
+    rw not-held (is-false (is 4 (d .state) && false) (fails-right (is 4 (d .state)) false tt))
+
 -- ---- a tick that is taken in MOTORRUN
 
 module _ (d : Drive) (running : T (is 4 (d .state))) where
@@ -164,6 +177,15 @@ module _ (d : Drive) (running : T (is 4 (d .state))) where
         ticked-is t
         ∙ ap (next t) (ap (λ (a : Bool). choice a (low settings t)) (calm .0) ∙ ap (choice false) (calm .1))
 
+    -- cause 7 does not stand, or is masked
+    pub unset : (lock d t && bit 7 (FaultEnable settings)) ≡ false
+    unset =
+        neither-so (bit 7 (alive settings (d .flags))) (lock d t && bit 7 (FaultEnable settings)) (rw dark at (raises-7 d t))
+      where
+        neither-so : (x y : Bool) → false ≡ (x || y) → y ≡ false
+        neither-so true y e = absurd (false≢true e)
+        neither-so false y e = sym e
+
   -- ---- flag 7 in the live word of a reached state
 
   module _ (t : Tick) (r : Reached d) where
@@ -182,16 +204,8 @@ module _ (d : Drive) (running : T (is 4 (d .state))) where
   -- ---- the same tick without torque
 
   module _ (t : Tick) (loaded : Loaded settings) where
-    not-held : locked settings (slack t) ≡ false
-    not-held =
-        is-false (locked settings (slack t))
-        (fails-left (leb (MotorLim settings) 0) (leb (natAbs (t .speed)) 4095)
-        (not-T (leb (MotorLim settings) 0)
-        (λ none. omega (arith, leb-yes {a = MotorLim settings} {b = 0} none, at-least loaded 12 (omega arith)))))
-
     pub no-lock : lock d (slack t) ≡ false
-    unfolding watched
-    no-lock = rw not-held (is-false (is 4 (d .state) && false) (fails-right (is 4 (d .state)) false tt))
+    no-lock = unlocked d t loaded
 
     others-alike : others d (slack t) ≡ others d t
     unfolding watched

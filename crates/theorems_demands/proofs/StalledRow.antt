@@ -9,6 +9,7 @@ use lib.Dec.{T, eqb, leb, le→leb}
 use lib.Ieee.Bits.{is-true, is-false}
 use mir.Facts.{T-not, and-yes, yes-and, eqb-yes, leb-yes}
 use Rattle.numbers.proofs.Tests.{decide, contrary, or-right}
+use Rattle.settings.specs.Settings.{FaultEnable}
 use Rattle.states.specs.States.{is}
 use Rattle.states.proofs.Every.{at-every}
 use Rattle.fields.specs.declared.Cycle.{Cycle}
@@ -35,7 +36,9 @@ use Rattle.theorems_demands.specs.Stalled.{long, slackened, torqueless, 
 use Rattle.theorems_demands.proofs.Lawful.{remembered}
 use Rattle.theorems_demands.proofs.Shown.{made}
 use Rattle.theorems_demands.proofs.Torque.{unrefused, accepted, with-torque}
-use Rattle.theorems_demands.proofs.Eased.{Alike, itself, answered-alike, ticked-alike}
+use Rattle.theorems_demands.proofs.Eased.{Alike, itself}
+use Rattle.theorems_demands.proofs.FlagSeven as seven
+use Rattle.theorems_demands.proofs.TorqueAlone.{shown-alike, ticked-alike}
 use Rattle.theorems_demands.proofs.EasedCalls.{no-load, no-block-load, no-tick-either, still-alike}
 use Rattle.theorems_demands.proofs.Stalled.{flag-seven-is-exact}
 
@@ -187,8 +190,9 @@ module _ (earlier : List Call) (runs : T (inMotorRun (log machine earlier))) whe
 
       slack-alike : answered past (slack t) ≡ answered eased (slack t)
       slack-alike =
+          let unset : (seven.lock d (slack t) && bit 7 (FaultEnable (d .settings))) ≡ false = rw (seven.unlocked d t loaded) in
           ap (λ (r : Reply). r .answer) (accepted d (slack t) slack-unrefused)
-          ∙ answered-alike d other (going .alike) running loaded t
+          ∙ shown-alike (ticked d (slack t)) (ticked other (slack t)) (ticked-alike d other (going .alike) (slack t) loaded unset) 0 0
           ∙ sym (ap (λ (r : Reply). r .answer) other-replies)
 
       stalling : T (stalls (numbersOf (log machine past)) t)
@@ -221,9 +225,8 @@ module _ (earlier : List Call) (runs : T (inMotorRun (log machine earlier))) whe
                 ∙ rw (free, going .count) (sym (add-suc before (taken row earlier)));
             alike =
                 rw (ap (λ (r : Reply). r .drive) replies, ap (λ (r : Reply). r .drive) other-replies)
-                (ticked-alike d other (going .alike) running loaded t
-                (sym (ap (λ (r : Reply). r .answer .state) replies) ∙ there)
-                (sym (ap (λ (r : Reply). r .answer .state) other-replies) ∙ holds free .2));
+                (ticked-alike d other (going .alike) t loaded
+                (seven.unset d running t (sym (ap (λ (r : Reply). r .answer .state) replies) ∙ there)));
           }
 
     -- any other call

@@ -1,25 +1,17 @@
 -- Torque is read by bit 7 alone: two drives that are alike reply alike to a call with torque and to the same call without, unless flag 7 is
 -- set by it.
-use mathlib.Core.Path.{_≡_, refl, sym, subst, ap, _∙_}
-use mathlib.Core.Bool.{Bool, true, false, not, _&&_, _||_, cond, and-or-distrib-right}
-use mathlib.Core.List.{List, [], _∷_, _++_}
-use Prim.Native.Nat.{ℕ, _≤_}
-use native.Mathlib.Omega.{arith}
+use mathlib.Core.Path.{_≡_, refl, sym, ap, _∙_}
+use mathlib.Core.Bool.{Bool, true, false, _&&_, _||_, and-or-distrib-right}
+use Prim.Native.Nat.{ℕ}
 use lib.Bits.{or-zero-r}
-use lib.Dec.{T, eqb, ltb, leb, not-T}
-use lib.IntN.{natAbs}
-use lib.Ieee.Bits.{is-true, is-false}
-use mir.Facts.{ltb-yes, leb-yes}
-use Rattle.numbers.proofs.Tests.{fails-left, fails-right}
 use Rattle.faults.specs.Word.{bit, flag, _or_}
 use Rattle.faults.proofs.Joined.{or-swap, live-each, live-flag}
 use Rattle.states.specs.States.{is}
-use Rattle.settings.specs.Settings.{FaultEnable, MotorLim}
+use Rattle.settings.specs.Settings.{FaultEnable}
 use Rattle.fields.specs.declared.Tick.{Tick}
-use Rattle.motor.specs.Counts.{watched, locked}
+use Rattle.motor.specs.Counts.{watched}
 use Rattle.motor.specs.Reference.{targetOf}
 use Rattle.moves.specs.Moves.{moveOf}
-use Rattle.moves.specs.declared.Grounds.{Grounds}
 use Rattle.moves.specs.declared.Move.{Move}
 use Rattle.moves.specs.declared.Move.the-variants.{Stay, Enter, Measure, Clear, Retry}
 use Rattle.drive.specs.Flags.{alwaysLive, alive}
@@ -27,7 +19,6 @@ use Rattle.drive.specs.Answer.{answer}
 use Rattle.drive.specs.Ticks.{watch, standing, raised, armedBy, nth, grounds, chosen, moved, ticked}
 use Rattle.drive.specs.declared.Drive.{Drive}
 use Rattle.theorems_reached.specs.Reached.{Loaded}
-use Rattle.theorems_reached.proofs.Loads.{at-least}
 use Rattle.theorems_demands.specs.Stalled.{slack}
 use Rattle.theorems_demands.proofs.FlagSeven as seven
 use Rattle.theorems_demands.proofs.Eased.{eased, Alike, joined}
@@ -58,19 +49,6 @@ module _ (d other : Drive) (a : Alike d other) where
 
 -- ---- a tick, in any state
 
--- without torque nothing is counted for bit 7
-pub unlocked : (d : Drive) (t : Tick) → Loaded (d .settings) → seven.lock d (slack t) ≡ false
-unfolding watched
-unlocked d t loaded =
-    let held : Bool = locked (d .settings) (slack t) in
-    let not-held : held ≡ false =
-    is-false held
-    (fails-left (leb (MotorLim (d .settings)) 0) (leb (natAbs (t .speed)) 4095)
-    (not-T (leb (MotorLim (d .settings)) 0)
-    (λ none. omega (arith, leb-yes {a = MotorLim (d .settings)} {b = 0} none, at-least loaded 12 (omega arith)))))
-    in
-    rw not-held (is-false (is 4 (d .state) && false) (fails-right (is 4 (d .state)) false tt))
-
 module _ (d other : Drive) (a : Alike d other) (t : Tick) (loaded : Loaded (d .settings))
     (unset : (seven.lock d t && bit 7 (FaultEnable (d .settings))) ≡ false) where
   abbrev eases : Drive
@@ -87,7 +65,7 @@ module _ (d other : Drive) (a : Alike d other) (t : Tick) (loaded : Loaded (d .s
   standing-slack : standing eases (slack t) ≡ (others or 0)
   standing-slack =
       seven.parted eases (slack t)
-      ∙ ap (λ (on : Bool). seven.others eases (slack t) or flag 7 on) (unlocked eases t loaded)
+      ∙ ap (λ (on : Bool). seven.others eases (slack t) or flag 7 on) (seven.unlocked eases t loaded)
       ∙ ap (λ (word : ℕ). word or 0) others-alike
 
   raised-alike : raised d t ≡ (raised eases (slack t) or flag 7 (a .set || seven.lock d t))

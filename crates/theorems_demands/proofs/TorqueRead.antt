@@ -1,13 +1,13 @@
 -- Torque is read by bit 7 alone: whatever is called, with torque in the ticks or without, each answer is the same until flag 7 is set.
-use mathlib.Core.Path.{_≡_, refl, sym, subst, ap, _∙_}
+use mathlib.Core.Path.{_≡_, refl, sym, ap, _∙_}
 use mathlib.Core.Bool.{Bool, true, false, not, _&&_, cond}
 use mathlib.Core.List.{List, [], _∷_, _++_}
 use Prim.Native.Nat.{ℕ}
 use native.Mathlib.Omega.{arith}
-use lib.Dec.{T, eqb, ltb, leb, not-T}
+use lib.Dec.{T, eqb, ltb, not-T}
 use lib.IntN.{natAbs}
 use lib.Ieee.Bits.{is-false}
-use mir.Facts.{and-yes, eqb-yes, leb-yes, ltb-yes}
+use mir.Facts.{eqb-yes, leb-yes, ltb-yes}
 use Rattle.numbers.proofs.Tests.{all-three}
 use Rattle.faults.specs.Word.{bit, flag, _or_}
 use Rattle.faults.proofs.Joined.{or-swap}
@@ -45,9 +45,9 @@ use Rattle.theorems_demands.proofs.Eased.{Alike, itself, cycled-alike}
 use Rattle.theorems_demands.proofs.TorqueAlone.{shown-alike, ticked-alike}
 
 -- two replies: alike in what they leave, and the same answer
-record Same (r other : Reply) : Type 0 where
-  leaves : Alike (r .drive) (other .drive)
-  answers : r .answer ≡ other .answer
+pub record Same (r other : Reply) : Type 0 where
+  pub leaves : Alike (r .drive) (other .drive)
+  pub answers : r .answer ≡ other .answer
 
 settle-same :
     (v : Verdict) (next left next′ left′ : Drive)
@@ -91,19 +91,24 @@ module _ (d other : Drive) (a : Alike d other) where
       is-false (ltb 4095 (natAbs (t .«trq_ref»)))
       (not-T (ltb 4095 (natAbs (t .«trq_ref»)))
       (λ above.
-      omega
-      (arith,
-      leb-yes {a = natAbs (t .«trq_ref»)} {b = 4095} small,
-      ltb-yes {a = 4095} {b = natAbs (t .«trq_ref»)} above)))
+      omega (
+        arith,
+        leb-yes {a = natAbs (t .«trq_ref»)} {b = 4095} small,
+        ltb-yes {a = 4095} {b = natAbs (t .«trq_ref»)} above,
+      )))
       in
       ap (λ (drive : Drive). verdict (tickRows drive (slack t))) (a .same) ∙ rw within
 
   -- a call with its torque, which sets no flag 7, and without
-  abbrev Unset : Call → Type 0
-  Unset call = (t : Tick) → call ≡ ticks t → verdict (tickRows d t) .number ≡ 0
+  abbrev pub Unset : Call → Type 0
+  Unset (loads numbers) = Unit {0}
+  Unset (cycles c) = Unit {0}
+  Unset (ticks t) =
+      verdict (tickRows d t) .number ≡ 0
       → Loaded (d .settings) × ((seven.lock d t && bit 7 (FaultEnable (d .settings))) ≡ false)
+  Unset (blockLoads image block) = Unit {0}
 
-  replies-same : (call : Call) → T (mayHave call) → Unset call → Same (reply d call) (reply other (slackened call))
+  pub replies-same : (call : Call) → T (mayHave call) → Unset call → Same (reply d call) (reply other (slackened call))
   unfolding Calls.load Calls.cycle TickCalls.tick Blocks.blockLoad
   replies-same (loads numbers) may unset =
       rw (ap (λ (drive : Drive). verdict (loadRows drive numbers)) (a .same))
@@ -114,7 +119,7 @@ module _ (d other : Drive) (a : Alike d other) where
   replies-same (ticks t) may unset =
       rw (tick-rows t may)
       (settle-same (verdict (tickRows d t)) (ticked d t) d (ticked other (slack t)) other
-      (λ none. let (loaded, dark) = unset t refl none in ticked-alike d other a t loaded dark)
+      (λ none. let (loaded, dark) = unset none in ticked-alike d other a t loaded dark)
       a)
   replies-same (blockLoads image block) may unset =
       rw (ap (λ (drive : Drive). verdict (blockRows drive image block)) (a .same))
@@ -128,17 +133,16 @@ module _ (d other : Drive) (a : Alike d other) where
 unset-by-the-log :
     (past : List Call) (call : Call)
     → T (not (sets7 (entry machine (stateAfter machine past) call) (log machine past)))
-    → (let d : Drive = stateAfter machine past in
-    (t : Tick) → call ≡ ticks t → verdict (tickRows d t) .number ≡ 0
-    → Loaded (d .settings) × ((seven.lock d t && bit 7 (FaultEnable (d .settings))) ≡ false))
+    → Unset (stateAfter machine past) (stateAfter machine past) (itself (stateAfter machine past)) call
 unfolding stalledFor answer
-unset-by-the-log past call none t same unrefused =
+unset-by-the-log past (loads numbers) none = tt
+unset-by-the-log past (cycles c) none = tt
+unset-by-the-log past (ticks t) none = λ unrefused.
     let d : Drive = stateAfter machine past in
     let r = every-reached past in
     let outside = passed (tickRows d t) tt unrefused .0 in
     let taken : reply d (ticks t) .answer .number ≡ 0 = ap (λ (a : Reply). a .answer .number) (accepted d t unrefused) in
     let sets : Bool = sets7 (entry machine d (ticks t)) (log machine past) in
-    let none-now : T (not sets) = subst (λ (made : Call). T (not (sets7 (entry machine d made) (log machine past)))) same none in
     let is-set : sets ≡ (seven.lock d t && bit 7 (FaultEnable (d .settings))) =
     rw (
       taken,
@@ -146,7 +150,8 @@ unset-by-the-log past call none t same unrefused =
       ← enabled-alike d r (log machine past) (remembered past) (all-counted past) t outside,
     )
     in
-    (r .settings outside, sym is-set ∙ is-false sets none-now)
+    (r .settings outside, sym is-set ∙ is-false sets none)
+unset-by-the-log past (blockLoads image block) none = tt
 
 module _ (earlier : List Call) where
   -- a call more of a row that has not tripped
