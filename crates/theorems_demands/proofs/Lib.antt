@@ -29,3 +29,4 @@ pub mod WrongBlockLoads
 pub mod WrongFlags
 pub mod WrongStalls
 pub mod WrongRows
+pub mod WrongTorques

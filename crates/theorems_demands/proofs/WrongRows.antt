@@ -1,6 +1,6 @@
 -- Wrong drives that a stall puts out of step, whatever torque the next tick has: each is this drive but for one thing, in its replies, its
 -- state and its account of itself alike. `StalledPumpIsReported`, asked of the answers with and without torque, tells each of them: its
--- premises hold of the run that is written out, and what it says does not. Of this drive it holds. antt computes each verdict.
+-- premises hold of the row that is written out, and what it says does not. Of this drive it holds. antt computes each verdict.
 use mathlib.Core.Path.{_≡_, refl}
 use mathlib.Core.Bool.{Bool, true, not, _&&_, _||_, cond}
 use mathlib.Core.List.{List, [], _∷_, _++_, map, reverse}
@@ -29,7 +29,7 @@ use Rattle.theorems_demands.proofs.WrongStalls.{changed, with, put, isC
 -- ---- the statement as a test, of any drive
 
 module _ (replies : Replies) where
-  abbrev answered : List Call → Call → Answer
+  abbrev pub answered : List Call → Call → Answer
   answered past call = replies (stateAfter (machineOf replies) past) call .answer
 
   abbrev accepts : List Call → Call → Bool
@@ -63,7 +63,7 @@ module _ (replies : Replies) where
       && not (enabled 7 (numbersOf past) && leb (lockTicks (numbersOf past)) (stalledFor past + taken row earlier))
 
   -- enough of an answer to tell these drives; of this drive the whole is proved (StalledRow.antt)
-  abbrev same : Answer → Answer → Bool
+  abbrev pub same : Answer → Answer → Bool
   same a b =
       eqb (a .number) (b .number) && eqb (a .place) (b .place) && eqb (a .state) (b .state) && eqb (a .gate) (b .gate)
       && eqb (a .live) (b .live) && eqb (natAbs (a .reference)) (natAbs (b .reference)) && eqb (a .position) (b .position)
@@ -78,7 +78,7 @@ module _ (replies : Replies) where
 -- ---- the drives
 
 -- what the drive has counted
-abbrev counted : Drive → ℕ
+abbrev pub counted : Drive → ℕ
 counted d = d .run .«rotor_lock_ticks»
 
 -- in MOTORRUN, at a tick, with so many counted
@@ -86,7 +86,7 @@ abbrev after : ℕ → Drive → Call → Reply → Bool
 after n d call r = is 4 (d .state) && leb n (counted d) && isTickWith (λ t. true) call
 
 -- the reference is dropped
-abbrev drops : Drive → Drive → Drive
+abbrev pub drops : Drive → Drive → Drive
 drops before d =
     becomes d (d .state) (d .hall) (d .flags) (d .cycles) (d .ticks) (d .offsets)
     (record {
@@ -121,7 +121,11 @@ cases =
     -- deaf to every tick
     (deafAfter 5, 65535, held 9) ∷
     -- a cycle that leaves MOTORRUN; a refused tick, a refused load and a cycle between
-    (changed (λ d call r. isCycle call && is 4 (d .state) && leb 5 (counted d)) (put Parking true), 65535, held 4 ++ (shows 1 ∷ held 5)) ∷
+    (
+      changed (λ d call r. isCycle call && is 4 (d .state) && leb 5 (counted d)) (put Parking true),
+      65535,
+      held 4 ++ (shows 1 ∷ held 5),
+    ) ∷
     (changed (after 5) (λ before d. with Fault (2 ^ 14) 0 d), 65535, held 4 ++ (refused ∷ loads [] ∷ shows 1 ∷ held 5)) ∷
     []
 

@@ -118,7 +118,7 @@ sets d call r = not (bit 7 (d .flags)) && bit 7 (r .drive .flags)
 -- ---- the runs
 
 -- a load with RotorLockTime 1, this FaultEnable, MotorLim and MinSpd
-abbrev coldLoad : (mask limit least : ℕ) → Call
+abbrev pub coldLoad : (mask limit least : ℕ) → Call
 coldLoad mask limit least =
     loads
     (0 ∷ mask ∷ 3000 ∷ 1000 ∷ 3500 ∷ 3500 ∷ 1 ∷ 800 ∷ 100 ∷ 0 ∷ least ∷ 20480 ∷
@@ -163,7 +163,7 @@ held = ticks heldTick
 abbrev pub refused : Call
 refused = tickWith 1 4096 (pos 4095) (pos 0)
 
-abbrev heldInStop : Call
+abbrev pub heldInStop : Call
 heldInStop = tickWith 0 400 (pos 4095) (pos 0)
 
 abbrev rows : List Row

@@ -34,8 +34,8 @@ inMotorRun past = eqb (memoryOf words past .shown) 4
 abbrev pub stalls : List ℕ → Tick → Bool
 stalls s t = leb (setting 13 s) (natAbs (t .«trq_ref»)) && leb (natAbs (t .speed)) 4095
 
--- "consecutive ticks", of "only ticks taken in MOTORRUN, from zero at each entry": any other accepted tick ends the row, and so does an accepted
--- load; a cycle and a refused call are no ticks
+-- "consecutive ticks", of "only ticks taken in MOTORRUN, from zero at each entry": any other accepted tick ends the row, and so does an
+-- accepted load; a cycle and a refused call are no ticks
 abbrev pub oneMore : (numbers : List ℕ) (running : Bool) → Asked Tick → ℕ → ℕ
 oneMore s running (load numbers) before = 0
 oneMore s running (tick t) before = cond (running && stalls s t) (suc before) 0
