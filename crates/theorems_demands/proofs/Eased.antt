@@ -9,6 +9,7 @@ use Rattle.faults.proofs.Joined.{or-swap, or-assoc}
 use Rattle.settings.specs.Settings.{FaultEnable}
 use Rattle.fields.specs.declared.Cycle.{Cycle}
 use Rattle.drive.specs.Calls.{becomes, cycled, sample}
+use Rattle.drive.specs.Blocks.{marked}
 use Rattle.drive.specs.declared.Drive.{Drive}
 
 -- the drive with another count for bit 7, and other flags
@@ -56,17 +57,27 @@ itself d =
       masked = refl;
     }
 
+-- a call that adds flags to both, and else changes both alike
 module _ (d other : Drive) (a : Alike d other) where
-  -- a cycle
-  pub cycled-alike : (c : Cycle) → Alike (cycled d c) (cycled other c)
-  unfolding cycled
-  cycled-alike c =
-      let new : ℕ = flag 15 (sample d c .flagged) in
+  adds :
+      (new : ℕ) (after after′ : Drive)
+      → after .flags ≡ (d .flags or new)
+      → after .settings ≡ d .settings
+      → after′ ≡ eased after (a .count) (a .flags or new)
+      → Alike after after′
+  adds new after after′ flags settings same =
       record {
         count = a .count;
         flags = a .flags or new;
         set = a .set;
-        same = rw (a .same);
-        more = ap (λ (flags : ℕ). flags or new) (a .more) ∙ or-swap (a .flags) (flag 7 (a .set)) new;
-        masked = a .masked;
+        same = same;
+        more = flags ∙ ap (λ (flags : ℕ). flags or new) (a .more) ∙ or-swap (a .flags) (flag 7 (a .set)) new;
+        masked = rw settings (a .masked);
       }
+
+  pub cycled-alike : (c : Cycle) → Alike (cycled d c) (cycled other c)
+  unfolding cycled
+  cycled-alike c = adds (flag 15 (sample d c .flagged)) (cycled d c) (cycled other c) refl refl (rw (a .same))
+
+  pub marked-alike : Alike (marked d) (marked other)
+  marked-alike = adds (flag 12 true) (marked d) (marked other) refl refl (rw (a .same))

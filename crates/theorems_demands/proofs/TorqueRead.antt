@@ -9,8 +9,7 @@ use lib.IntN.{natAbs}
 use lib.Ieee.Bits.{is-false}
 use mir.Facts.{eqb-yes, leb-yes, ltb-yes}
 use Rattle.numbers.proofs.Tests.{all-three}
-use Rattle.faults.specs.Word.{bit, flag, _or_}
-use Rattle.faults.proofs.Joined.{or-swap}
+use Rattle.faults.specs.Word.{bit, _or_}
 use Rattle.states.specs.States.{is}
 use Rattle.settings.specs.Settings.{meant, FaultEnable}
 use Rattle.fields.specs.declared.Tick.{Tick}
@@ -41,7 +40,7 @@ use Rattle.theorems_demands.proofs.Held.{all-counted}
 use Rattle.theorems_demands.proofs.Torque.{accepted}
 use Rattle.theorems_demands.proofs.FlagSeven as seven
 use Rattle.theorems_demands.proofs.FlagSevenShown.{lock-alike, enabled-alike}
-use Rattle.theorems_demands.proofs.Eased.{Alike, itself, cycled-alike}
+use Rattle.theorems_demands.proofs.Eased.{Alike, itself, cycled-alike, marked-alike}
 use Rattle.theorems_demands.proofs.TorqueAlone.{shown-alike, ticked-alike}
 
 -- two replies: alike in what they leave, and the same answer
@@ -64,24 +63,12 @@ settle-same v next left next′ left′ goes stays = go (eqb (v .number) 0) refl
     go false e = record { leaves = stays; answers = shown-alike left left′ stays (v .number) (v .place) }
 
 module _ (d other : Drive) (a : Alike d other) where
-  marked-alike : Alike (marked d) (marked other)
-  marked-alike =
-      let new : ℕ = flag 12 true in
-      record {
-        count = a .count;
-        flags = a .flags or new;
-        set = a .set;
-        same = rw (a .same);
-        more = ap (λ (flags : ℕ). flags or new) (a .more) ∙ or-swap (a .flags) (flag 7 (a .set)) new;
-        masked = a .masked;
-      }
-
   left-alike : (image : List ℕ) (block : ℕ) → Alike (leftByBlock d image block) (leftByBlock other image block)
   left-alike image block =
       rw (ap (λ (drive : Drive). is 0 (drive .state)) (a .same)) (go (isRead fifteen image block && is 0 (d .state)))
     where
       go : (test : Bool) → Alike (cond test (marked d) d) (cond test (marked other) other)
-      go true = marked-alike
+      go true = marked-alike d other a
       go false = a
 
   -- a tick with a torque that it may have is refused alike

@@ -26,7 +26,7 @@ use Rattle.theorems_history.proofs.Judges.{judges}
 use Rattle.theorems_reached.specs.Machine.{machine, machineOf}
 use Rattle.onlooker.specs.Words.{words}
 use Rattle.theorems_demands.specs.NamedCalls.{shows, high, clear, times, ready, started}
-use Rattle.theorems_demands.specs.Stalled.{Log, inMotorRun, stalledFor, shows7, slack}
+use Rattle.theorems_demands.specs.Stalled.{Log, inMotorRun, stalledFor, shows7, withTorque, slack}
 use Rattle.theorems_demands.proofs.Computes.{computes}
 use Rattle.theorems_demands.proofs.WrongDrives.{Replies, Row}
 
@@ -40,23 +40,6 @@ misread read d (blockLoads image block) = reply d (blockLoads image block)
 
 abbrev overlooks : (Drive → Tick → Bool) → Replies
 overlooks where-it-does = misread (λ d t. cond (where-it-does d t) (slack t) t)
-
--- the tick at another speed
-abbrev atSpeed : ℤ → Tick → Tick
-atSpeed speed t =
-    record {
-      «gate_kill» = t .«gate_kill»;
-      clear = t .clear;
-      command = t .command;
-      control = t .control;
-      «vdc_raw» = t .«vdc_raw»;
-      «vdc_filt» = t .«vdc_filt»;
-      temperature = t .temperature;
-      «flx_m» = t .«flx_m»;
-      «trq_ref» = t .«trq_ref»;
-      speed = speed;
-      target = t .target;
-    }
 
 -- ---- drives that miscount, or misreport
 
@@ -174,7 +157,7 @@ rows =
     -- speed 0 outside; 4095 outside; 4096 inside
     (overlooks (λ d t. eqb (natAbs (t .speed)) 0), running ++ times 10 held) ∷
     (overlooks (λ d t. eqb (natAbs (t .speed)) 4095), running ++ times 10 (tickAt (pos 4095) (pos 4095))) ∷ (
-      misread (λ d t. cond (eqb (natAbs (t .speed)) 4096) (atSpeed (pos 0) t) t),
+      misread (λ d t. cond (eqb (natAbs (t .speed)) 4096) (withTorque (t .«trq_ref») (pos 0) t) t),
       running ++ times 10 (tickAt (pos 4095) (pos 4096)),
     ) ∷
     -- a speed or a torque judged with its sign; a torque that must be above MotorLim

@@ -10,7 +10,7 @@ use mathlib.Core.Bool.{Bool, true, false, not, _&&_, _||_, cond}
 use mathlib.Core.Path.{_≡_}
 use mathlib.Core.List.{List, [], _∷_, _++_, map}
 use lib.Dec.{T, eqb, leb}
-use lib.IntN.{pos, natAbs}
+use lib.IntN.{ℤ, pos, natAbs}
 use Rattle.faults.specs.Word.{bit}
 use Rattle.fields.specs.declared.Tick.{Tick}
 use Rattle.theorems_history.specs.Log.{Entry, stateAfter, entry, log}
@@ -76,9 +76,9 @@ FlagSevenIsShown =
 
 -- ---- the answer to an accepted tick that is taken in MOTORRUN, after any sequence of calls from power-up
 
--- the same tick with TrqRef 0: it never stalls, for a loaded MotorLim is at least 1
-abbrev pub slack : Tick → Tick
-slack t =
+-- the same tick with this TrqRef and this speed
+abbrev pub withTorque : (torque speed : ℤ) → Tick → Tick
+withTorque torque speed t =
     record {
       «gate_kill» = t .«gate_kill»;
       clear = t .clear;
@@ -88,10 +88,14 @@ slack t =
       «vdc_filt» = t .«vdc_filt»;
       temperature = t .temperature;
       «flx_m» = t .«flx_m»;
-      «trq_ref» = pos 0;
-      speed = t .speed;
+      «trq_ref» = torque;
+      speed = speed;
       target = t .target;
     }
+
+-- .. with TrqRef 0: it never stalls, for a loaded MotorLim is at least 1
+abbrev pub slack : Tick → Tick
+slack t = withTorque (pos 0) (t .speed) t
 
 -- what a tick would be answered after these calls
 abbrev pub answered : List Call → Tick → Answer
