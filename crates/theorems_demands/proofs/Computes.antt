@@ -1,5 +1,7 @@
 -- To unfold `computes` is to unfold every definition of the drive, so that a call on written-out values computes; and so do an image and
--- what the onlooker reads off it.
+-- what the onlooker reads off it. And how a list of cases is computed.
+use mathlib.Core.Bool.{Bool, true, _&&_}
+use mathlib.Core.List.{List, [], _∷_}
 use Rattle.numbers.specs.Bytes
 use Rattle.images.specs.Image
 use Rattle.images.specs.Table
@@ -26,3 +28,8 @@ unfolding Fate.fate Fate.beside Angle.twelfth Angle.withOffset Sample.sampled Sa
     Bytes.numbers Bytes.words Image.pieces Image.imageOf Table.keeps Table.ends Table.kept Table.tabled Table.wellFormed
     Reading.foundOf Blocks.blockLoad Words.numbersFrom Words.stored
 computes = tt
+
+-- a test that passes for each of a list; the kit's `all` does not compute here
+abbrev pub each : {A : Type 0} → (A → Bool) → List A → Bool
+each test [] = true
+each test (x ∷ rest) = test x && each test rest

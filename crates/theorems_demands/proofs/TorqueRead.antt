@@ -33,7 +33,7 @@ use Rattle.theorems_history.specs.Log.{stateAfter, entry, log}
 use Rattle.theorems_reached.specs.Machine.{machine}
 use Rattle.theorems_reached.specs.Reached.{Loaded}
 use Rattle.theorems_reached.proofs.Keeps.{every-reached}
-use Rattle.theorems_demands.specs.Stalled.{sets7, slack, slackened, torqueless, mayHave, untripped, stalledFor}
+use Rattle.theorems_demands.specs.Stalled.{sets7, slack, slackened, torqueless, torqueAllowed, untripped, stalledFor}
 use Rattle.theorems_demands.specs.Stalled.{TorqueIsReadByBit7Alone}
 use Rattle.theorems_demands.proofs.Lawful.{remembered}
 use Rattle.theorems_demands.proofs.Held.{all-counted}
@@ -72,7 +72,7 @@ module _ (d other : Drive) (a : Alike d other) where
       go false = a
 
   -- a tick with a torque that it may have is refused alike
-  tick-rows : (t : Tick) → T (mayHave (ticks t)) → verdict (tickRows other (slack t)) ≡ verdict (tickRows d t)
+  tick-rows : (t : Tick) → T (torqueAllowed (ticks t)) → verdict (tickRows other (slack t)) ≡ verdict (tickRows d t)
   tick-rows t small =
       let within : ltb 4095 (natAbs (t .«trq_ref»)) ≡ false =
       is-false (ltb 4095 (natAbs (t .«trq_ref»)))
@@ -95,7 +95,7 @@ module _ (d other : Drive) (a : Alike d other) where
       → Loaded (d .settings) × ((seven.lock d t && bit 7 (FaultEnable (d .settings))) ≡ false)
   Unset (blockLoads image block) = Unit {0}
 
-  pub replies-same : (call : Call) → T (mayHave call) → Unset call → Same (reply d call) (reply other (slackened call))
+  pub replies-same : (call : Call) → T (torqueAllowed call) → Unset call → Same (reply d call) (reply other (slackened call))
   unfolding Calls.load Calls.cycle TickCalls.tick Blocks.blockLoad
   replies-same (loads numbers) may unset =
       rw (ap (λ (drive : Drive). verdict (loadRows drive numbers)) (a .same))
@@ -145,12 +145,12 @@ module _ (earlier : List Call) where
   parts :
       (row : List Call) (call : Call)
       → T (untripped (call ∷ row) earlier)
-      → T (mayHave call)
+      → T (torqueAllowed call)
       × T (not (sets7 (entry machine (stateAfter machine (row ++ earlier)) call) (log machine (row ++ earlier))))
       × T (untripped row earlier)
   unfolding untripped
   parts row call all =
-      all-three (mayHave call) (not (sets7 (entry machine (stateAfter machine (row ++ earlier)) call) (log machine (row ++ earlier))))
+      all-three (torqueAllowed call) (not (sets7 (entry machine (stateAfter machine (row ++ earlier)) call) (log machine (row ++ earlier))))
       (untripped row earlier)
       all
 
@@ -158,7 +158,7 @@ module _ (earlier : List Call) where
   same-reply :
       (row : List Call) (call : Call)
       → Alike (stateAfter machine (row ++ earlier)) (stateAfter machine (torqueless row earlier))
-      → T (mayHave call)
+      → T (torqueAllowed call)
       → T (not (sets7 (entry machine (stateAfter machine (row ++ earlier)) call) (log machine (row ++ earlier))))
       → Same (reply (stateAfter machine (row ++ earlier)) call) (reply (stateAfter machine (torqueless row earlier)) (slackened call))
   same-reply row call alike may none =

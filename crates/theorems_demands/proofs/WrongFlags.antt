@@ -22,7 +22,7 @@ use Rattle.theorems_reached.specs.Machine.{machineOf}
 use Rattle.theorems_demands.specs.NamedCalls.{settingsWith, loaded}
 use Rattle.theorems_demands.specs.Amended.{isBlockLoad}
 use Rattle.theorems_demands.specs.FlagTwelve.{isLoad, loadedYet, lit}
-use Rattle.theorems_demands.proofs.Computes.{computes}
+use Rattle.theorems_demands.proofs.Computes.{computes, each}
 
 abbrev Replies : Type 0
 Replies = Drive → Call → Reply
@@ -91,10 +91,6 @@ agrees (e ∷ earlier) = Bool·beq (bit 12 (e .answer .live)) (lit (e ∷ earlie
 abbrev toldNow : Row → Bool
 toldNow row = not (agrees (log (machineOf (row .0)) (reverse (row .1))))
 
-abbrev allTold : List Row → Bool
-allTold [] = true
-allTold (row ∷ rest) = toldNow row && allTold rest
-
-pub each-is-told : allTold rows ≡ true
+pub each-is-told : each toldNow rows ≡ true
 unfolding judges computes loadedYet lit
 each-is-told = refl

@@ -22,7 +22,7 @@ use Rattle.theorems_reached.specs.Machine.{machineOf}
 use Rattle.onlooker.specs.Words.{enabled}
 use Rattle.theorems_demands.specs.NamedCalls.{shows, high, times}
 use Rattle.theorems_demands.specs.Stalled.{numbersOf, inMotorRun, stalls, stalledFor, lockTicks, slack, trippedBy7, slackened}
-use Rattle.theorems_demands.proofs.Computes.{computes}
+use Rattle.theorems_demands.proofs.Computes.{computes, each}
 use Rattle.theorems_demands.proofs.WrongDrives.{Replies}
 use Rattle.theorems_demands.proofs.WrongStalls.{changed, with, put, isCycle, isTickWith, cold, heldTick, refused}
 
@@ -137,10 +137,6 @@ told c = premises (c .0) (earlier (c .1)) (c .2) heldTick && not (reported (c .0
 
 abbrev right : Case → Bool
 right c = premises reply (earlier (c .1)) (c .2) heldTick && reported reply (earlier (c .1)) (c .2) heldTick
-
-abbrev each : (Case → Bool) → List Case → Bool
-each test [] = true
-each test (c ∷ rest) = test c && each test rest
 
 pub each-is-told : each told cases ≡ true
 unfolding judges computes stalledFor

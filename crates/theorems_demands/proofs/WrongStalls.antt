@@ -27,7 +27,7 @@ use Rattle.theorems_reached.specs.Machine.{machine, machineOf}
 use Rattle.onlooker.specs.Words.{words}
 use Rattle.theorems_demands.specs.NamedCalls.{shows, high, clear, times, ready, started}
 use Rattle.theorems_demands.specs.Stalled.{Log, inMotorRun, stalledFor, shows7, withTorque, slack}
-use Rattle.theorems_demands.proofs.Computes.{computes}
+use Rattle.theorems_demands.proofs.Computes.{computes, each}
 use Rattle.theorems_demands.proofs.WrongDrives.{Replies, Row}
 
 -- ---- drives that misread a tick that is taken in MOTORRUN: as one without torque, or at another speed
@@ -211,10 +211,6 @@ reported [] = false
 reported (e ∷ past) =
     Bool·beq (bit 7 (e .answer .live)) (shows7 (e ∷ past))
     && (not (takenInMotorRun (e ∷ past)) || eqb (e .answer .state) (cond (eqb (e .answer .live) 0) 4 5))
-
-abbrev each : (Row → Bool) → List Row → Bool
-each test [] = true
-each test (row ∷ rest) = test row && each test rest
 
 -- the log of a row's calls: of its wrong drive, and of this one
 abbrev wrongly : Row → Log

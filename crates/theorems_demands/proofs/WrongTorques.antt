@@ -16,8 +16,8 @@ use Rattle.theorems_history.specs.Log.{stateAfter, entry, log}
 use Rattle.theorems_history.proofs.Judges.{judges}
 use Rattle.theorems_reached.specs.Machine.{machineOf}
 use Rattle.theorems_demands.specs.NamedCalls.{shows, high, low, times, ready}
-use Rattle.theorems_demands.specs.Stalled.{sets7, stalledFor, slackened, mayHave}
-use Rattle.theorems_demands.proofs.Computes.{computes}
+use Rattle.theorems_demands.specs.Stalled.{sets7, stalledFor, slackened, torqueAllowed}
+use Rattle.theorems_demands.proofs.Computes.{computes, each}
 use Rattle.theorems_demands.proofs.WrongDrives.{Replies}
 use Rattle.theorems_demands.proofs.WrongStalls.{changed, with, isCycle, isTickWith, cold, coldLoad, heldTick, heldInStop}
 use Rattle.theorems_demands.proofs.WrongRows.{answered, same, counted, drops}
@@ -28,7 +28,7 @@ module _ (replies : Replies) where
   abbrev untripped : (row earlier : List Call) → Bool
   untripped [] earlier = true
   untripped (call ∷ row) earlier =
-      mayHave call
+      torqueAllowed call
       && not
       (sets7 (entry (machineOf replies) (stateAfter (machineOf replies) (row ++ earlier)) call) (log (machineOf replies) (row ++ earlier)))
       && untripped row earlier
@@ -121,10 +121,6 @@ abbrev right : Case → Bool
 right c =
     let (replies, earlier, row, call) = c in
     untripped reply (call ∷ reverse row) (reverse earlier) && answersAlike reply (reverse row) (reverse earlier) call
-
-abbrev each : (Case → Bool) → List Case → Bool
-each test [] = true
-each test (c ∷ rest) = test c && each test rest
 
 pub each-is-told : each told cases ≡ true
 unfolding judges computes stalledFor

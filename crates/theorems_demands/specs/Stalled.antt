@@ -160,17 +160,17 @@ abbrev pub torqueless : (row earlier : List Call) → List Call
 torqueless row earlier = map slackened row ++ earlier
 
 -- a torque that a tick may have
-abbrev pub mayHave : Call → Bool
-mayHave (loads numbers) = true
-mayHave (cycles fields) = true
-mayHave (ticks t) = leb (natAbs (t .«trq_ref»)) 4095
-mayHave (blockLoads image block) = true
+abbrev pub torqueAllowed : Call → Bool
+torqueAllowed (loads numbers) = true
+torqueAllowed (cycles fields) = true
+torqueAllowed (ticks t) = leb (natAbs (t .«trq_ref»)) 4095
+torqueAllowed (blockLoads image block) = true
 
 -- none of these calls sets flag 7
 unfoldable pub untripped : (row earlier : List Call) → Bool
 untripped [] earlier = true
 untripped (call ∷ row) earlier =
-    mayHave call
+    torqueAllowed call
     && not (sets7 (entry machine (stateAfter machine (row ++ earlier)) call) (log machine (row ++ earlier)))
     && untripped row earlier
 
