@@ -18,5 +18,6 @@ The tools:
   image, image_calls                    ./image: the command, and the proved calls that it asks
   strip, strip_marks, strip_picture, strip_runs   tools/strip
   compare, strength, measure            the commands of these names
+  stack, frames                         tools/stack: what the line call takes; million_lines.rs asks for lines
   stored, expected                      tools/stored
   citations                             a test: what the docs cite is there"""

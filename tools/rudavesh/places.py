@@ -23,6 +23,16 @@ def crates_of(root: Path) -> Dict[str, List[str]]:
     return listed((root / "crates.txt").read_text())
 
 
+def crates_below(name: str, root: Path) -> List[str]:
+    """A crate of a repository and all that it knows, directly or not, in the order of crates.txt; what is the kit's is not among them."""
+    crates = crates_of(root)
+    reached = {name}
+    for crate in reversed(crates):  # whoever is known stands above whoever knows it
+        if crate in reached:
+            reached.update(crates[crate])
+    return [crate for crate in crates if crate in reached]
+
+
 def crate_folder(name: str, root: Path = ROOT) -> Path:
     return root / "crates" / name
 

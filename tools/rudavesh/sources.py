@@ -33,5 +33,5 @@ def written_files(root: Path = places.ROOT) -> List[Path]:
     """The files that people write in the crates, the model and the tools: Rattle, Rust, Python, and the commands and what they share."""
     model, tools = root / "model", root / "tools"
     commands = [file for folder in (tools, tools / "shell") for file in sorted(folder.glob("*")) if file.is_file() and is_shell(file)]
-    rust = [file for part in ("src", "tests") for file in sorted((model / part).glob("**/*.rs"))]
+    rust = [file for folder in (model / "src", model / "tests", tools) for file in sorted(folder.glob("**/*.rs"))]
     return rattle_files(root / "crates") + rust + sorted(tools.glob("**/*.py")) + commands

@@ -2,6 +2,7 @@
 use Prim.Native.Nat.{ℕ, zero, suc, _+_, _-_, _/_, _%_, _≤_, _<_}
 use native.Mathlib.Nat.{le-refl, not-suc-le-zero}
 use native.Mathlib.Numerals.{add-one, sub-one}
+use native.Mathlib.Omega.{arith}
 use mathlib.Core.Path.{_≡_, refl}
 use mathlib.Core.List.{List}
 use lib.ListN.{length, set, length-append}
@@ -15,12 +16,13 @@ length-digits base zero n = refl
 length-digits base (suc width) n = rw (length-append, length-digits base width (n / base), add-one)
 
 -- a turn stores the last digit of those still to come, so what the buffer will be stays the same
-pub one-made : (l : List ℕ) (at base rest left j : ℕ) → 0 < left → j ≡ at + (left - 1)
-    → sets (set l j (digit (rest % base))) at (digits base (left - 1) (rest / base)) ≡ sets l at (digits base left rest)
+pub one-made : (l : List ℕ) (at base rest left : ℕ) → 0 < left
+    → sets (set l (at + left - 1) (digit (rest % base))) at (digits base (left - 1) (rest / base)) ≡ sets l at (digits base left rest)
 unfolding digits
-one-made l at base rest zero j some here = absurd (not-suc-le-zero some)
-one-made l at base rest (suc left) j some here =
+one-made l at base rest zero some = absurd (not-suc-le-zero some)
+one-made l at base rest (suc left) some =
     let before = digits base left (rest / base) in
     let long : length before ≡ left = length-digits base left (rest / base) in
     let past : at + length before ≤ at + left = rw long (le-refl (at + left)) in
+    let here : at + suc left - 1 ≡ at + left = omega arith in
     rw (here, sub-one, sets-append, long, set-past l at before (at + left))
