@@ -4,9 +4,9 @@ Of each tree the line call is proved and compiled to the optimised archive that 
 is read off its machine code, which objdump prints: the frame of the call (the address that it returns to, what it saves, by how much it
 lowers the stack's pointer, how far below that it goes), and the deepest way through what it calls. A program in Rust then asks
 each archive for a million lines: the best time of twenty runs, in turn; the instructions of a line on average, where there is valgrind to
-count them; and whether the lines are the same. Two trees of which nothing is proved yet take some minutes. The archive is for x86-64.
-Exit status: 0 measured, and the lines are the same; 1 they are not, or a write failed; 2 wrong use, or the kit, git, objdump or rustc is
-missing or failed."""
+count them; and whether the lines are the same. The archive is for x86-64.
+Exit status: 0 measured, and the lines are the same, or with --most the stack suffices; 1 they are not, or it does not, or a write failed;
+2 wrong use, or the kit, git, objdump or rustc is missing or failed."""
 
 import hashlib
 import re
@@ -17,7 +17,7 @@ import tempfile
 from pathlib import Path
 from typing import List, NamedTuple, Optional, Tuple
 
-from .arguments import parser_of
+from .arguments import from_one, parser_of
 from .frames import WORD, Frame, Unreadable, deepest, frames
 from .places import ROOT, crate_folder, crates_below
 
@@ -44,16 +44,22 @@ CALLER = Path(__file__).with_name("million_lines.rs")
 MILLION, COUNTED, RUNS = 1_000_000, 10_000, 20  # lines that are timed and compared, lines that valgrind counts, runs that are timed
 NEEDED = {"rt": "the Rattle kit is missing: its command rt", "objdump": "objdump (of binutils)", "rustc": "rustc"}
 AS_IT_STANDS = "as it stands"
+ARCHIVES = Path("target") / "staticlib"
 
 
 class Tree(NamedTuple):
-    """A tree by its name, the stack that its line call takes, and the program that asks for lines of it."""
+    """A tree by its name, its folder, and the stack that its line call takes."""
 
     name: str
+    place: Path
     frame: Frame
     depth: int
     below: Tuple[str, ...]
-    program: Path
+
+    @property
+    def program(self) -> Path:
+        """The program that asks for its lines, once it is linked."""
+        return self.place / CALLER.stem
 
 
 def said(*words: object, folder: Optional[Path] = None) -> str:
@@ -67,35 +73,37 @@ def said(*words: object, folder: Optional[Path] = None) -> str:
 
 def lay_out(place: Path, revision: str, proved: Path) -> None:
     """The crates of a revision in a folder, and the line call for C above them. What is proved in another folder is not proved again."""
+    (place / "target").mkdir(parents=True)
     if revision == AS_IT_STANDS:
-        shutil.copytree(ROOT / "crates", place / "crates")
-        shutil.copy(ROOT / "crates.txt", place)
+        said("cp", "-r", "crates", "crates.txt", place, folder=ROOT)
     else:
-        place.mkdir()
         said("git", "archive", f"--output={place}/tree.tar", revision, "crates", "crates.txt", folder=ROOT)
         said("tar", "-xf", "tree.tar", folder=place)
-    for part in ("rlib", "stamp"):
-        if (proved / part).exists():
-            shutil.copytree(proved / part, place / "target" / part)
+    known = crates_below("report", place)
+    for part, ending in (("rlib", ".rlib"), ("stamp", "")):
+        (place / "target" / part).mkdir()
+        kept = [proved / part / f"{name}{ending}" for name in known if (proved / "stamp" / name).exists()]
+        if kept:
+            said("cp", "-r", *kept, place / "target" / part)
     source = crate_folder(CALL, place) / "src" / "lib.rt"
     source.parent.mkdir(parents=True)
     source.write_text(SOURCE)
-    known = " ".join(crates_below("report", place))
     with (place / "crates.txt").open("a") as crates:
-        crates.write(f"{CALL}: {known}\n")
+        crates.write(f"{CALL}: {' '.join(known)}\n")
 
 
-def built(place: Path, revision: str, proved: Path) -> Tree:
-    """A tree in a folder, with its archive looked into and linked."""
+def compiled(place: Path, revision: str, proved: Path) -> Tree:
+    """A tree in a folder, with its archive made and looked into."""
     print(f"tools/stack: proving and compiling: {revision}.", file=sys.stderr)
     lay_out(place, revision, proved)
     said("rt", "staticlib", CALL, folder=place)
-    archive = place / "target" / "staticlib" / f"lib{CALL}.a"
-    known = frames(said("objdump", "-d", "-r", "--no-show-raw-insn", archive))
+    known = frames(said("objdump", "-d", "-r", "--no-show-raw-insn", place / ARCHIVES / f"lib{CALL}.a"))
     depth, way = deepest(known, CALL)
-    program = place / CALLER.stem
-    said("rustc", "-O", "--edition=2021", "-L", archive.parent, "-o", program, CALLER)
-    return Tree(revision, known[CALL], depth, way[1:], program)
+    return Tree(revision, place, known[CALL], depth, way[1:])
+
+
+def link(tree: Tree) -> None:
+    said("rustc", "-O", "--edition=2021", "-L", tree.place / ARCHIVES, "-o", tree.program, CALLER)
 
 
 def instructions(tree: Tree) -> str:
@@ -113,12 +121,14 @@ def lines_of(tree: Tree) -> str:
 
 
 def below(tree: Tree) -> str:
-    """The stack below the frame, and who takes it."""
+    """The stack that the calls below the frame take, and whose."""
     return f"{tree.depth - tree.frame.own} ({', '.join(tree.below) or 'it calls nothing'})"
 
 
 def table(trees: List[Tree]) -> List[str]:
-    """What was measured, as a landing's note carries it."""
+    """What is measured, as a landing's note carries it."""
+    for tree in trees:
+        link(tree)
     times = zip(*[[float(said(tree.program, MILLION)) for tree in trees] for _ in range(RUNS)])
     rows = [
         ["The line call", *(tree.name for tree in trees)],
@@ -140,30 +150,49 @@ def is_revision(word: str) -> bool:
     return done.returncode == 0
 
 
-def main() -> int:
-    parser = parser_of("stack", __doc__)
-    parser.add_argument("revision", nargs="*", metavar="REVISION", help="a commit to measure beside the tree as it stands")
-    revisions = parser.parse_args().revision
-    for word in revisions:
-        if not is_revision(word):
-            parser.error(f"there is no commit {word}")
-    for command, what in NEEDED.items():
-        if not shutil.which(command):
-            print(f"tools/stack: {what} is not on the PATH.", file=sys.stderr)
-            return 2
-    with tempfile.TemporaryDirectory() as folder:
-        trees: List[Tree] = []
-        proved = ROOT / "target"
-        for number, revision in enumerate([*revisions, AS_IT_STANDS]):
-            place = Path(folder) / str(number)
-            try:
-                trees.append(built(place, revision, proved))
-            except Unreadable as reason:
-                print(f"tools/stack: the stack of {revision} cannot be told: {reason}.", file=sys.stderr)
-                return 2
-            proved = place / "target"
-        print(*table(trees), sep="\n")
-        same = len({lines_of(tree) for tree in trees}) == 1
+def measured(revisions: List[str], folder: Path) -> List[Tree]:
+    """The trees, each in a folder of its own. What is proved of one is not proved again of the next."""
+    trees: List[Tree] = []
+    proved = ROOT / "target"
+    for revision in [*revisions, AS_IT_STANDS]:
+        trees.append(compiled(folder / str(len(trees)), revision, proved))
+        proved = trees[-1].place / "target"
+    return trees
+
+
+def compared(trees: List[Tree]) -> int:
+    """Prints what each tree takes, and whether all give the same lines; the status."""
+    print(*table(trees), sep="\n")
+    same = len({lines_of(tree) for tree in trees}) == 1
     if len(trees) > 1:
         print(f"Of {MILLION:,} lines {'no byte differs' if same else 'some differ'}.")
     return 0 if same else 1
+
+
+def held(tree: Tree, most: int) -> int:
+    """Prints what the line call takes of the stack; the status is 1 where it is more than it may be."""
+    print(f"The line call takes {tree.depth} bytes of the stack; {most} are allowed.")
+    return 0 if tree.depth <= most else 1
+
+
+def main() -> int:
+    parser = parser_of("stack", __doc__)
+    parser.add_argument("--most", type=from_one, metavar="BYTES", help="look at the stack alone, and whether it takes no more than this")
+    parser.add_argument("revision", nargs="*", metavar="REVISION", help="a commit to measure beside the tree as it stands")
+    given = parser.parse_args()
+    if given.most and given.revision:
+        parser.error("--most is asked of the tree as it stands alone")
+    for word in given.revision:
+        if not is_revision(word):
+            parser.error(f"there is no commit {word}")
+    for command, what in NEEDED.items():
+        if not shutil.which(command) and not (given.most and command == "rustc"):
+            print(f"tools/stack: {what} is not on the PATH.", file=sys.stderr)
+            return 2
+    with tempfile.TemporaryDirectory() as folder:
+        try:
+            trees = measured(given.revision, Path(folder))
+        except Unreadable as reason:
+            print(f"tools/stack: what the line call takes cannot be told: {reason}.", file=sys.stderr)
+            return 2
+        return held(trees[0], given.most) if given.most else compared(trees)

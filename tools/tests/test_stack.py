@@ -1,10 +1,12 @@
 """Tests of `stack`: frames read off machine code, and the crates that an archive is made of."""
 
+import io
 import tempfile
 import unittest
+from contextlib import redirect_stdout
 from pathlib import Path
 
-from rudavesh import places
+from rudavesh import places, stack
 from rudavesh.frames import Frame, Unreadable, deepest, frames
 
 # As `objdump -d -r --no-show-raw-insn` prints an archive.
@@ -89,6 +91,18 @@ class Frames(unittest.TestCase):
             deepest(frames(function("call   0 <turn>")), "turn")
         with self.assertRaisesRegex(Unreadable, "memcpy is called and is not in the archive"):
             deepest(frames(function("call   5 <turn+0x5>") + "\n\t\t\t1: R_X86_64_PLT32\tmemcpy-0x4"), "turn")
+
+
+class Held(unittest.TestCase):
+    """That the stack suffices, or not, as the gate asks."""
+
+    def test_as_much_as_is_allowed_and_no_more(self):
+        tree = stack.Tree("as it stands", Path(), Frame(8, 0, 0), 16, ())
+        for most, status in ((17, 0), (16, 0), (15, 1)):
+            said = io.StringIO()
+            with redirect_stdout(said):
+                self.assertEqual(stack.held(tree, most), status)
+            self.assertEqual(said.getvalue(), f"The line call takes 16 bytes of the stack; {most} are allowed.\n")
 
 
 class Below(unittest.TestCase):

@@ -107,9 +107,30 @@ fn fields() {
     call_spacious(measured(0x0123, 12345, 0x01234567, -5462));
 }
 
+// Each digit at each place of live word and position, and at the last four of reference and angle: from line to line each goes one up.
+fn digits() {
+    call_exact(measured(0x0123, 123, 0x01234567, -5678));
+    call_exact(measured(0x1234, 11234, 0x12345678, -16789));
+    call_exact(measured(0x2345, 22345, 0x23456789, -27890));
+    call_exact(measured(0x3456, 3456, 0x3456789a, -8901));
+    call_exact(measured(0x4567, 14567, 0x456789ab, -19012));
+    call_exact(measured(0x5678, 25678, 0x56789abc, -20123));
+    call_exact(measured(0x6789, 6789, 0x6789abcd, -1234));
+    call_exact(measured(0x789a, 17890, 0x789abcde, -12345));
+    call_exact(measured(0x89ab, 28901, 0x89abcdef, -23456));
+    call_exact(measured(0x9abc, 9012, 0x9abcdef0, -4567));
+    call_exact(measured(0xabcd, 10123, 0xabcdef01, -15678));
+    call_exact(measured(0xbcde, 21234, 0xbcdef012, -26789));
+    call_exact(measured(0xcdef, 2345, 0xcdef0123, -7890));
+    call_exact(measured(0xdef0, 13456, 0xdef01234, -18901));
+    call_exact(measured(0xef01, 24567, 0xef012345, -29012));
+    call_exact(measured(0xf012, 5678, 0xf0123456, -123));
+}
+
 fn main() {
     rooms();
     refusals();
     states();
     fields();
+    digits();
 }

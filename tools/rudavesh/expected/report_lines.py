@@ -19,6 +19,11 @@ def call(room: int, number: int = 0, state: int = MOTORRUN, gate: int = DRIVE, l
     return "0 0 " + text + "#" * (room - LENGTH)
 
 
+def counted_up(first: int) -> int:
+    """Four digits, each one more than the one before it, and 0 after 9."""
+    return int("".join(str((first + place) % 10) for place in range(4)))
+
+
 def calls() -> Iterator[str]:
     for room in LENGTH - 1, LENGTH, 60:
         yield call(room, 0, 1, 0)
@@ -42,6 +47,11 @@ def calls() -> Iterator[str]:
     ):
         yield call(LENGTH, live=live, reference=reference, position=position, angle=angle)
     yield call(60, live=0x123, reference=12345, position=0x1234567, angle=-5462)
+
+    for first in range(16):
+        position = int("".join(f"{(first + place) % 16:x}" for place in range(8)), 16)
+        reference, angle = (first % 3 * 10_000 + counted_up(start % 10) for start in (first, first + 5))
+        yield call(LENGTH, live=position >> 16, reference=reference, position=position, angle=-angle)
 
 
 def files() -> Files:
