@@ -42,7 +42,7 @@ pub extern "C" fn {CALL}(number: u8, state: u8, gate: u8, live: u16, reference: 
 """
 CALLER = Path(__file__).with_name("million_lines.rs")
 MILLION, COUNTED, RUNS = 1_000_000, 10_000, 20  # lines that are timed and compared, lines that valgrind counts, runs that are timed
-NEEDED = {"rt": "the Rattle kit is missing: its command rt", "objdump": "objdump (of binutils)", "rustc": "rustc"}
+NAMES = {"rt": "the Rattle kit is missing: its command rt", "objdump": "objdump (of binutils)"}
 AS_IT_STANDS = "as it stands"
 ARCHIVES = Path("target") / "staticlib"
 
@@ -150,6 +150,15 @@ def is_revision(word: str) -> bool:
     return done.returncode == 0
 
 
+def missing(*commands: str) -> bool:
+    """Says which of some commands is not there, the first."""
+    for command in commands:
+        if not shutil.which(command):
+            print(f"tools/stack: {NAMES.get(command, command)} is not on the PATH.", file=sys.stderr)
+            return True
+    return False
+
+
 def measured(revisions: List[str], folder: Path) -> List[Tree]:
     """The trees, each in a folder of its own. What is proved of one is not proved again of the next."""
     trees: List[Tree] = []
@@ -182,13 +191,13 @@ def main() -> int:
     given = parser.parse_args()
     if given.most and given.revision:
         parser.error("--most is asked of the tree as it stands alone")
+    if given.revision and missing("git"):
+        return 2
     for word in given.revision:
         if not is_revision(word):
             parser.error(f"there is no commit {word}")
-    for command, what in NEEDED.items():
-        if not shutil.which(command) and not (given.most and command == "rustc"):
-            print(f"tools/stack: {what} is not on the PATH.", file=sys.stderr)
-            return 2
+    if missing("rt", "objdump") or not given.most and missing("rustc"):
+        return 2
     with tempfile.TemporaryDirectory() as folder:
         try:
             trees = measured(given.revision, Path(folder))

@@ -3,8 +3,9 @@
 import io
 import tempfile
 import unittest
-from contextlib import redirect_stdout
+from contextlib import redirect_stderr, redirect_stdout
 from pathlib import Path
+from unittest import mock
 
 from rudavesh import places, stack
 from rudavesh.frames import Frame, Unreadable, deepest, frames
@@ -103,6 +104,23 @@ class Held(unittest.TestCase):
             with redirect_stdout(said):
                 self.assertEqual(stack.held(tree, most), status)
             self.assertEqual(said.getvalue(), f"The line call takes 16 bytes of the stack; {most} are allowed.\n")
+
+
+class Needed(unittest.TestCase):
+    def test_the_first_command_that_is_missing_is_named(self):
+        with tempfile.TemporaryDirectory() as folder, mock.patch.dict("os.environ", {"PATH": folder}):
+            there = Path(folder) / "objdump"
+            there.write_text("#!/bin/sh\n")
+            there.chmod(0o755)
+            for commands, said in (
+                (("objdump",), ""),
+                (("objdump", "rustc", "git"), "tools/stack: rustc is not on the PATH.\n"),
+                (("rt",), "tools/stack: the Rattle kit is missing: its command rt is not on the PATH.\n"),
+            ):
+                told = io.StringIO()
+                with redirect_stderr(told):
+                    self.assertEqual(stack.missing(*commands), bool(said))
+                self.assertEqual(told.getvalue(), said)
 
 
 class Below(unittest.TestCase):
