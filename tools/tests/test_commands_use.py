@@ -13,9 +13,9 @@ from .commands import run
 COMMANDS = ("compare", "measure", "records", "stack", "stored", "strength", "strip")
 WRONG = (
     ("compare", "x"), ("compare", "0"), ("compare", "1", "0"), ("compare", "1", "1", "1"), ("compare", "\u0663"), ("measure", "--nonsense"),
-    ("measure", "x"), ("records", "--nonsense"), ("stack", "no_such_commit"), ("stack", "--most", "0"),
-    ("stack", "--most", "8", "HEAD"), ("stored", "--nonsense"), ("stored", "x"), ("strength", "--every", "0"), ("strength", "--every", "x"), ("strength", "no_such_crate"), ("strip", "--width", "0"),
-    ("strip", str(TOOLS)),
+    ("measure", "x"), ("records", "--nonsense"), ("stack", "no_such_commit"), ("stack", "--most", "0"), ("stack", "--most", "8", "HEAD"),
+    ("stored", "--nonsense"), ("stored", "x"), ("strength", "--every", "0"), ("strength", "--every", "x"), ("strength", "no_such_crate"),
+    ("strip", "--width", "0"), ("strip", str(TOOLS)),
 )  # fmt: skip
 
 
