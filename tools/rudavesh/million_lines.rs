@@ -19,7 +19,7 @@ extern "C" {
         angle: i16,
         lent: *mut u8,
         length: usize,
-    ) -> u8;
+    ) -> u16;
 }
 
 /// The line of the answer with this index. Numbers, states and gates take turns; the factors are odd, so of 65,536 answers in a row each

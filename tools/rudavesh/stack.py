@@ -1,18 +1,20 @@
 """What the line call takes: bytes of the stack, instructions and time. Of the tree as it stands, and of each REVISION beside it.
 
 Of each tree the line call is proved and compiled to the optimised archive that `rt staticlib` makes for programs in C and Rust. The stack
-is read off its machine code, which objdump prints: the frame of the call (the address that it returns to, what it saves, by how much it
-lowers the stack's pointer, how far below that it goes), and the deepest way through what it calls. A program in Rust then asks
-each archive for a million lines: the best time of twenty runs, in turn; the instructions of a line on average, where there is valgrind to
-count them; and whether the lines are the same. The archive is for x86-64.
+is read off its machine code, which objdump prints: the frame of `report::line` (the address that it returns to, what it saves, by how much
+it lowers the stack's pointer, how far below that it goes), and the deepest way through what it calls. A program in Rust then asks each
+archive for a million lines: the best time of twenty runs, in turn; the instructions of a line on average, where valgrind can count them;
+and whether the lines are the same. The archive is for x86-64.
 Exit status: 0 measured, and the lines are the same, or with --most the stack suffices; 1 they are not, or it does not, or a write failed;
 2 wrong use, or the kit, git, objdump or rustc is missing or failed."""
 
 import hashlib
+import os
 import re
 import shutil
 import subprocess
 import sys
+import tarfile
 import tempfile
 from pathlib import Path
 from typing import List, NamedTuple, Optional, Tuple
@@ -21,14 +23,17 @@ from .arguments import from_one, parser_of
 from .frames import WORD, Frame, Unreadable, deepest, frames
 from .places import ROOT, crate_folder, crates_below
 
-CALL = "line_for_c"
-# A line shows seven fields of an answer. The others, those of later answers with them, are as power-up has them.
-SOURCE = f"""\
-use drive::Drive;
-use drive::answer::answered;
+LINE, CALL = "report::line", "line_for_c"  # the line call in the archive, and around it the one that C knows
 
+
+def for_c(name: str, result: str, told: str) -> str:
+    """A function for C around the line call. A line shows seven fields of an answer: the others, also those that later requests add, are as
+    power-up has them."""
+    return f"""
 #[no_mangle]
-pub extern "C" fn {CALL}(number: u8, state: u8, gate: u8, live: u16, reference: i16, position: u32, angle: i16, lent: &mut [u8]) -> u8 {{
+pub extern "C" fn {name}(
+    number: u8, state: u8, gate: u8, live: u16, reference: i16, position: u32, angle: i16, lent: &mut [u8]
+) -> {result} {{
     let mut answer = answered(Drive::power_up(), number, 0);
     answer.state = state;
     answer.gate = gate;
@@ -37,9 +42,18 @@ pub extern "C" fn {CALL}(number: u8, state: u8, gate: u8, live: u16, reference: 
     answer.position = position;
     answer.angle = angle;
     let verdict = report::line(answer, lent);
-    verdict.number
+    {told}
 }}
 """
+
+
+# What is called in one place the compiler puts there. In three it stays a function of its own, as in a program, and its frame is its own.
+SOURCE = "".join([
+    "use drive::Drive;\nuse drive::answer::answered;\n",
+    for_c(CALL, "u16", "verdict.number as u16 * 256 + verdict.place as u16"),
+    for_c("number_for_c", "u8", "verdict.number"),
+    for_c("place_for_c", "u8", "verdict.place"),
+])  # fmt: skip
 CALLER = Path(__file__).with_name("million_lines.rs")
 MILLION, COUNTED, RUNS = 1_000_000, 10_000, 20  # lines that are timed and compared, lines that valgrind counts, runs that are timed
 NAMES = {"rt": "the Rattle kit is missing: its command rt", "objdump": "objdump (of binutils)"}
@@ -52,9 +66,10 @@ class Tree(NamedTuple):
 
     name: str
     place: Path
-    frame: Frame
-    depth: int
-    below: Tuple[str, ...]
+    frame: Frame  # of the line call
+    depth: int  # the most that it takes, with all that it calls
+    below: Tuple[str, ...]  # what it calls on that way
+    from_c: int  # the most that the call from C takes, in which it is
 
     @property
     def program(self) -> Path:
@@ -78,7 +93,8 @@ def lay_out(place: Path, revision: str, proved: Path) -> None:
         said("cp", "-r", "crates", "crates.txt", place, folder=ROOT)
     else:
         said("git", "archive", f"--output={place}/tree.tar", revision, "crates", "crates.txt", folder=ROOT)
-        said("tar", "-xf", "tree.tar", folder=place)
+        with tarfile.open(place / "tree.tar") as tree:
+            tree.extractall(place)
     known = crates_below("report", place)
     for part, ending in (("rlib", ".rlib"), ("stamp", "")):
         (place / "target" / part).mkdir()
@@ -98,8 +114,8 @@ def compiled(place: Path, revision: str, proved: Path) -> Tree:
     lay_out(place, revision, proved)
     said("rt", "staticlib", CALL, folder=place)
     known = frames(said("objdump", "-d", "-r", "--no-show-raw-insn", place / ARCHIVES / f"lib{CALL}.a"))
-    depth, way = deepest(known, CALL)
-    return Tree(revision, place, known[CALL], depth, way[1:])
+    depth, way = deepest(known, LINE)
+    return Tree(revision, place, known[LINE], depth, way[1:], deepest(known, CALL)[0])
 
 
 def link(tree: Tree) -> None:
@@ -111,8 +127,9 @@ def instructions(tree: Tree) -> str:
     if not shutil.which("valgrind"):
         return "-"
     words = ["valgrind", "--tool=callgrind", "--callgrind-out-file=/dev/null", f"--toggle-collect={CALL}", tree.program, str(COUNTED)]
-    told = subprocess.run(words, stdout=subprocess.DEVNULL, stderr=subprocess.PIPE, text=True, check=True).stderr
-    return f"{int(re.search(r'Collected : ([0-9]+)', told)[1]) / COUNTED:.1f}"
+    told = subprocess.run(words, stdout=subprocess.DEVNULL, stderr=subprocess.PIPE, text=True, check=False).stderr
+    found = re.search(r"Collected : ([0-9]+)", told)
+    return f"{int(found[1]) / COUNTED:.1f}" if found else "-"
 
 
 def lines_of(tree: Tree) -> str:
@@ -131,7 +148,7 @@ def table(trees: List[Tree]) -> List[str]:
         link(tree)
     times = zip(*[[float(said(tree.program, MILLION)) for tree in trees] for _ in range(RUNS)])
     rows = [
-        ["The line call", *(tree.name for tree in trees)],
+        [f"`{LINE}`", *(tree.name for tree in trees)],
         ["---"] * (len(trees) + 1),
         ["frame, bytes", *(str(tree.frame.own) for tree in trees)],
         ["- return address", *(str(WORD) for _ in trees)],
@@ -139,7 +156,8 @@ def table(trees: List[Tree]) -> List[str]:
         ["- lowered by", *(str(tree.frame.lowered) for tree in trees)],
         ["- below the pointer", *(str(tree.frame.below) for tree in trees)],
         ["deepest way below it, bytes", *map(below, trees)],
-        ["instructions of a line", *map(instructions, trees)],
+        ["called from C, with a copy of the answer, bytes", *(str(tree.from_c) for tree in trees)],
+        ["instructions of a line, so called", *map(instructions, trees)],
         ["a million lines", *(f"{min(runs):.3f} s" for runs in times)],
     ]
     return [f"| {' | '.join(row)} |" for row in rows]
@@ -199,6 +217,7 @@ def main() -> int:
     if missing("rt", "objdump") or not given.most and missing("rustc"):
         return 2
     with tempfile.TemporaryDirectory() as folder:
+        os.environ["TMPDIR"] = folder  # rt leaves files behind where it is interrupted
         try:
             trees = measured(given.revision, Path(folder))
         except Unreadable as reason:

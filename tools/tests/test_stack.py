@@ -24,14 +24,15 @@ Disassembly of section .text.turn:
    1:\tsub    $0x10,%rsp
    5:\tmovaps 0x0(%rip),%xmm0        # c <turn+0xc>
 \t\t\t8: R_X86_64_PC32\t.rodata.cst16-0x4
-   c:\tmovaps %xmm0,-0x80(%rsp)
-  11:\tmovzbl -0x78(%rsp,%rdi,1),%eax
-  16:\tmov    0x20(%rsp),%rcx
-  1b:\tje     29 <turn+0x29>
-  1d:\tjmp    *%rsi
-  1f:\tadd    $0x10,%rsp
-  23:\tpop    %rbx
-  24:\tret
+   c:\tmovq   %xmm0,-0x8(%rsp)
+  11:\tmovaps %xmm0,-0x38(%rsp)
+  16:\tmov    %rax,-0x10(%rsp)
+  1b:\tmov    0x120(%rsp),%rcx
+  23:\tje     29 <turn+0x29>
+  25:\tjmp    *%rsi
+  27:\tadd    $0x10,%rsp
+  2b:\tpop    %rbx
+  2c:\tret
 """
 CALLER = """\
 Disassembly of section .text.pump:
@@ -41,14 +42,13 @@ Disassembly of section .text.pump:
    1:\tpush   %rbx
    2:\tadd    $0xffffffffffffff80,%rsp
    6:\tcall   b <pump+0xb>
-\t\t\t7: R_X86_64_PLT32\tturn-0x4
-   b:\tcall   10 <pump+0x10>
-\t\t\tc: R_X86_64_PC32\t.text.pump::stop-0x4
-  10:\tsub    $0xffffffffffffff80,%rsp
-  14:\tpop    %rbx
-  15:\tpop    %rbp
-  16:\tjmp    1b <pump+0x1b>
-\t\t\t17: R_X86_64_PLT32\tturn-0x4
+\t\t\t7: R_X86_64_PC32\t.text.pump::stop-0x4
+   b:\tsub    $0xffffffffffffff80,%rsp
+   f:\tpop    %rbx
+  10:\tpop    %rbp
+  11:\tjne    17 <pump+0x17>
+\t\t\t13: R_X86_64_PLT32\tturn-0x4
+  17:\tret
 
 Disassembly of section .text.pump::stop:
 
@@ -57,48 +57,65 @@ Disassembly of section .text.pump::stop:
 """
 
 
-def function(*code: str) -> str:
-    return "\n".join(["0000000000000000 <turn>:", *(f"   {at:x}:\t{text}" for at, text in enumerate(code))])
+def function(*code: str, name: str = "turn") -> str:
+    return "\n".join([f"0000000000000000 <{name}>:", *(f"   {at:x}:\t{text}" for at, text in enumerate(code)), ""])
 
 
 class Frames(unittest.TestCase):
     def test_a_frame_is_what_is_pushed_lowered_and_used_below(self):
-        frame = Frame(saved=8, lowered=16, below=128, calls=())
+        frame = Frame(saved=8, lowered=16, below=0x38, calls=())
         self.assertEqual(frames(LEAF), {"turn": frame})
-        self.assertEqual(frame.own, 8 + 8 + 16 + 128)
+        self.assertEqual(frame.own, 8 + 8 + 16 + 56)
 
     def test_a_frame_of_128_is_made_by_adding_minus_128(self):
-        self.assertEqual(frames(CALLER)["pump"], Frame(16, 128, 0, ("turn", "pump::stop")))
+        self.assertEqual(frames(CALLER)["pump"], Frame(16, 128, 0, ("pump::stop", "turn")))
 
     def test_a_function_without_a_frame_takes_the_address_that_it_returns_to(self):
         self.assertEqual(frames(CALLER)["pump::stop"].own, 8)
 
+    def test_where_it_is_not_told_how_far_below_all_is_taken(self):
+        for text in ("movzbl -0x8(%rsp,%rdi,1),%eax", "lea    -0x8(%rsp),%rax"):
+            self.assertEqual(frames(function(text))["turn"].below, 128)
+
+    def test_what_is_lowered_twice_or_stands_in_two_objects_counts_twice(self):
+        self.assertEqual(frames(function("sub    $0x10,%rsp", "subq   $0x8,%rsp"))["turn"].lowered, 24)
+        self.assertEqual(frames(function("push   %rbx") + function("pushq  $0x1"))["turn"].saved, 16)
+
+    def test_a_call_is_one_by_whatever_it_is_written(self):
+        for text in ("call   0 <stop>", "callq  0 <stop>", "bnd call 0 <stop>", "jmp    4 <stop+0x4>", "jne    0 <stop>"):
+            self.assertEqual(frames(function(text))["turn"].calls, ("stop",), text)
+        for text in ("jmp    4 <turn+0x4>", "jmp    0 <turn>", "jmp    *%rax", "mov    %rax,%rcx"):
+            self.assertEqual(frames(function(text))["turn"].calls, (), text)
+
     def test_the_deepest_way_is_through_the_largest_frame(self):
         known = frames(LEAF + CALLER)
-        self.assertEqual(deepest(known, "turn"), (160, ("turn",)))
-        self.assertEqual(deepest(known, "pump"), (8 + 16 + 128 + 160, ("pump", "turn")))
+        self.assertEqual(deepest(known, "turn"), (88, ("turn",)))
+        self.assertEqual(deepest(known, "pump"), (8 + 16 + 128 + 88, ("pump", "turn")))
 
     def test_what_cannot_be_told_is_said(self):
-        for code, said in (
-            (("mov    %rbp,%rsp",), "moves the stack's pointer"),
-            (("and    $0xffffffffffffffe0,%rsp",), "moves the stack's pointer"),
-            (("call   *%rax",), "calls what it does not name"),
-        ):
-            with self.assertRaisesRegex(Unreadable, said):
-                frames(function(*code))
+        for text in ("mov    %rbp,%rsp", "and    $0xfffffffffffffff0,%rsp", "dec    %rsp", "mov    %rsp,%rbp", "leave", "enter  $0x8,$0x0"):
+            with self.assertRaisesRegex(Unreadable, "the stack's pointer"):
+                frames(function("ret", text))
+        with self.assertRaisesRegex(Unreadable, "calls what it does not name"):
+            frames(function("call   *%rax"))
+        with self.assertRaisesRegex(Unreadable, "no instruction of turn is read"):
+            frames("0000000000000000 <turn>:\n       0:      \tpushq\t%rbx\n")
 
     def test_a_way_without_an_end_or_out_of_the_archive_is_said(self):
+        ring = {"pump": ("turn",), "turn": ("stop",), "stop": ("pump",)}
+        with self.assertRaisesRegex(Unreadable, "pump calls itself"):
+            deepest({name: Frame(0, 0, 0, calls) for name, calls in ring.items()}, "pump")
         with self.assertRaisesRegex(Unreadable, "turn calls itself"):
             deepest(frames(function("call   0 <turn>")), "turn")
         with self.assertRaisesRegex(Unreadable, "memcpy is called and is not in the archive"):
-            deepest(frames(function("call   5 <turn+0x5>") + "\n\t\t\t1: R_X86_64_PLT32\tmemcpy-0x4"), "turn")
+            deepest(frames(function("call   5 <turn+0x5>") + "\t\t\t1: R_X86_64_PLT32\tmemcpy-0x4\n"), "turn")
 
 
 class Held(unittest.TestCase):
     """That the stack suffices, or not, as the gate asks."""
 
     def test_as_much_as_is_allowed_and_no_more(self):
-        tree = stack.Tree("as it stands", Path(), Frame(8, 0, 0), 16, ())
+        tree = stack.Tree("as it stands", Path(), Frame(8, 0, 0), 16, (), 64)
         for most, status in ((17, 0), (16, 0), (15, 1)):
             said = io.StringIO()
             with redirect_stdout(said):

@@ -1,6 +1,6 @@
 // Writers of one field each, with the byte that ends it: they put each of these bytes directly in its final place of a lent buffer, touch
 // no other byte, and tell the place behind them. A task with little stack calls them, so none collects bytes, and none reads a table:
-// Rattle builds a constant array that is indexed on the stack, at each use. tools/stack tells what the call takes.
+// Rattle builds an indexed constant array anew on the stack at each use. tools/stack tells what the call takes.
 ghost use mathlib.Core.Path.{_≡_};
 ghost use mathlib.Core.List.{[], _∷_, _++_};
 ghost use Prim.Native.Nat.{_+_, _≤_, _<_};
@@ -36,9 +36,9 @@ pub(crate) fn put_digits(
     let mut rest = number;
     let mut left = width;
     while 0 < left {
-        lent[at + left - 1] = digit(rest % base);
-        rest /= base;
         left -= 1;
+        lent[at + left] = digit(rest % base);
+        rest /= base;
     }
     lent[at + width] = end;
     at + width + 1

@@ -1,9 +1,12 @@
 -- `line` leaves the lent bytes where a row of the table holds, and past that what `fields` writes.
 use mathlib.Core.Path.{_≡_, ap, sym, _∙_}
+use mathlib.Core.List.{[]}
 use lib.ListN.{length}
 use borrow.Author.Needs.{needs}
 use borrow.Author.Tests.{eq-eqb, ne-eqb}
 use Rattle.verdicts.specs.declared.Verdict.{Verdict}
+use Rattle.verdicts.proofs.Passed.{behind-passed}
+use Rattle.report.specs.Refusals.{lineRows}
 use Rattle.report.proofs.Accepted.{fits}
 use Rattle.report.proofs.line.Statement.{statement}
 use Rattle.report.proofs.line.Tie as tie
@@ -26,8 +29,11 @@ fields-requires c κs =
 returns-2 : tie.Need-returns-2
 returns-2 c =
     let else1 = c .before .before .before .before in
-    let said = else1 .before .before .verdict .ensures in
-    (said, c .before .before .fields .ensures ∙ rw (eq-eqb _ 0 (rw said at (accepted else1))))
+    let args = else1 .before .before .before .before .args in
+    let none = rw (else1 .before .before .verdict .ensures) at (accepted else1) in (
+      sym (behind-passed (lineRows (args .answer) (length (args .lent .now))) [] tt none),
+      c .before .before .fields .ensures ∙ rw (eq-eqb _ 0 none),
+    )
 
 pub line-spec : {M : Type 1} → statement M
 line-spec = tie.close (tie.spec (search needs) returns fields-requires (search needs) returns-2)

@@ -41,9 +41,8 @@ pub put-digits-spec : {M : Type 1} → statement M
 put-digits-spec =
     tie.close (tie.spec Inv-loop μ-loop
     (λ c. (search needs, refl, refl))
-    (search needs)
-    (λ c κs. omega (arith, mod-lt (c .before .loop .rest) (c .before .before .before .pre .0 .0)))
-    (search needs) (search needs) (search needs) (search needs) (search needs) (search needs) loop-again (search needs) (search needs)
     (search needs) (search needs)
+    (λ c κs. omega (arith, mod-lt (c .before .loop .rest) (c .before .before .before .pre .0 .0)))
+    (search needs) (search needs) (search needs) (search needs) loop-again (search needs) (search needs) (search needs) (search needs)
     (λ c. simp length-set (c .before .loop .inv .1))
     returns)
