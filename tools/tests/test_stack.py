@@ -84,6 +84,8 @@ class Frames(unittest.TestCase):
     def test_a_call_is_one_by_whatever_it_is_written(self):
         for text in ("call   0 <stop>", "callq  0 <stop>", "bnd call 0 <stop>", "jmp    4 <stop+0x4>", "jne    0 <stop>"):
             self.assertEqual(frames(function(text))["turn"].calls, ("stop",), text)
+        by_table = function("call   *0x0(%rip)        # 6 <turn+0x6>") + "\t\t\t2: R_X86_64_GOTPCRELX\tstop-0x4\n"
+        self.assertEqual(frames(by_table)["turn"].calls, ("stop",))
         for text in ("jmp    4 <turn+0x4>", "jmp    0 <turn>", "jmp    *%rax", "mov    %rax,%rcx"):
             self.assertEqual(frames(function(text))["turn"].calls, (), text)
 
