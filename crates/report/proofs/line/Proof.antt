@@ -1,4 +1,5 @@
--- `line` leaves the lent bytes where a row of the table holds, and past that what `fields` writes.
+-- `line` leaves the lent bytes where a row of the table holds. Where none does, it leaves what `fields` writes, and the verdict is that of
+-- an empty table.
 use mathlib.Core.Path.{_≡_, ap, sym, _∙_}
 use mathlib.Core.List.{[]}
 use lib.ListN.{length}
