@@ -4,7 +4,8 @@ mod block_loads;
 
 use crate::benchline::{read_bench_head, BenchHead, BenchRecord};
 use crate::counts::Counts;
-use crate::drive::{Answer, Drive};
+use crate::drive::{Answer, Drive, Reply};
+use crate::fate_rows::{self, FateWatch};
 use crate::hall::{Layout, THREE_SENSORS, TWO_SENSORS};
 use crate::load::SENSORS_PLACE;
 use crate::record::{record_length, Record};
@@ -15,6 +16,17 @@ use block_loads::FlagWatch;
 fn has_bad_sensors(numbers: &[u16]) -> bool {
     let sensors = numbers.get(SETTINGS);
     sensors.is_some_and(|&sensors| Layout::of(sensors).is_none())
+}
+
+/// The letters of its records.
+const LETTERS: [char; 6] = ['L', 'M', 'N', 'B', 'C', 'T'];
+
+fn letter(record: &BenchRecord) -> char {
+    match record {
+        BenchRecord::AsInShiftline(record) => record.letter() as char,
+        BenchRecord::Numbers(_) => 'N',
+        BenchRecord::Block { .. } => 'B',
+    }
 }
 
 /// Names that are counted.
@@ -57,15 +69,18 @@ const LIST: [&str; 33] = [
 pub struct BenchReached {
     counts: Counts,
     flag_watch: FlagWatch,
+    fate_watch: FateWatch,
 }
 
 impl Default for BenchReached {
     fn default() -> BenchReached {
         let mut list = LIST.map(str::to_string).to_vec();
         list.extend(block_loads::list());
+        list.extend(fate_rows::list(&LETTERS, &[]));
         BenchReached {
             counts: Counts::new("benchline", list),
             flag_watch: FlagWatch::default(),
+            fate_watch: FateWatch::default(),
         }
     }
 }
@@ -73,6 +88,7 @@ impl Default for BenchReached {
 impl BenchReached {
     pub fn add_stream(&mut self, stream: &[u8]) {
         self.flag_watch = FlagWatch::default();
+        self.fate_watch = FateWatch::default();
         let mut drive = Drive::power_up();
         let mut rest = stream;
         loop {
@@ -84,6 +100,7 @@ impl BenchReached {
                     let reply = record.call(&drive);
                     self.whole(&record, &drive, &reply.answer);
                     self.flag_12(&record, &drive, &reply);
+                    self.fate(&record, &drive, &reply);
                     drive = reply.drive;
                 }
             }
@@ -128,6 +145,14 @@ impl BenchReached {
         }
         if answer.retries_used > 1 {
             self.count("retries above 1");
+        }
+    }
+
+    fn fate(&mut self, record: &BenchRecord, before: &Drive, reply: &Reply) {
+        let letter = letter(record);
+        let fates = &mut self.fate_watch;
+        for name in fates.names(letter, before, &reply.drive, &reply.answer) {
+            self.count(name);
         }
     }
 

@@ -104,11 +104,12 @@ impl BenchRecord {
 }
 
 /// "A motor's line: number, place, state, gate, live word, reference, position,
-/// angle, first offset, second offset, retries"; "separated by single spaces,
-/// ended by a line feed"
+/// angle, first offset, second offset, retries; from M-105 on the letter of the
+/// sample's fate, a full stop for anything but an accepted cycle"; "separated by
+/// single spaces, ended by a line feed"
 pub fn motor_line(answer: &Answer) -> String {
     format!(
-        "{} {} {} {} {} {} {} {} {} {} {}\n",
+        "{} {} {} {} {} {} {} {} {} {} {} {}\n",
         answer.number,
         answer.place,
         answer.state,
@@ -120,6 +121,7 @@ pub fn motor_line(answer: &Answer) -> String {
         answer.offsets.first,
         answer.offsets.second,
         answer.retries_used,
+        answer.fate_letter(),
     )
 }
 

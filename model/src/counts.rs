@@ -1,7 +1,18 @@
 //! Counts of names against an explicit list, for the streams of a bench
 //! program.
 
+use crate::hall::{Layout, TWO_SENSORS};
 use std::collections::{BTreeMap, BTreeSet};
+
+/// The name of what is listed for each layout.
+pub fn of_layout(layout: &Layout, name: impl AsRef<str>) -> String {
+    let two = *layout == TWO_SENSORS;
+    format!(
+        "{}{}",
+        if two { "two sensors: " } else { "" },
+        name.as_ref()
+    )
+}
 
 pub struct Counts {
     /// The word before the lines about the list.

@@ -4,7 +4,7 @@ use crate::causes::FULL_STILL_COUNT;
 use crate::drive::{Drive, Pair, Refusal, Reply};
 use crate::fields::{bad_places, FieldRule, Form, MOST_LEVEL};
 use crate::flag::Flag;
-use crate::hall::{with_offset, Group, Layout};
+use crate::hall::{with_offset, Fate, Layout};
 use crate::settings::Setting;
 use crate::state::State;
 
@@ -57,17 +57,21 @@ impl Drive {
             return self.refuse(Refusal::FieldOutOfRange, place);
         }
         let mut next = self.clone();
-        next.take_pattern(fields.pattern);
+        let fate = next.take_pattern(fields.pattern);
         next.count_cycle(fields.samples);
-        next.accept()
+        let mut reply = next.accept();
+        // M-105: "Cycle passes the name on in its answer"
+        reply.answer.fate = Some(fate);
+        reply
     }
 
-    fn take_pattern(&mut self, pattern: i64) {
+    /// Judges the sample and does what its fate asks for; gives the fate.
+    fn take_pattern(&mut self, pattern: i64) -> Fate {
         let offset = self.settings[Setting::HallAngleOffset];
         let layout = self.layout;
-        let group = layout.group(pattern, self.kept_pattern);
-        match group {
-            Group::Dead => {
+        let fate = layout.fate(pattern, self.kept_pattern);
+        match fate {
+            Fate::Dead => {
                 // "0 or 7: dead streak up by one, at most 2; stray streak
                 // zero. At 2, flag 15 is set and the kept pattern is
                 // forgotten."
@@ -78,7 +82,7 @@ impl Drive {
                     self.kept_pattern = None;
                 }
             }
-            Group::First => {
+            Fate::First => {
                 // "Any of 1..6 with none kept: kept; position unchanged; both
                 // streaks zero." "A first pattern gives its sector's middle".
                 self.angle = with_offset(layout.middle_angle(pattern), offset);
@@ -86,12 +90,12 @@ impl Drive {
                 self.dead_streak = 0;
                 self.stray_streak = 0;
             }
-            Group::Same => {
+            Fate::Same => {
                 // "Same as kept: both streaks zero."
                 self.dead_streak = 0;
                 self.stray_streak = 0;
             }
-            Group::Next | Group::Previous => {
+            Fate::Forward | Fate::Back => {
                 // "Next or previous: kept; position plus or minus 1; both
                 // streaks zero.", the 1 being the width where M-101 has two
                 // sensors. "The position counter runs modulo 2^32."
@@ -105,7 +109,7 @@ impl Drive {
                 self.dead_streak = 0;
                 self.stray_streak = 0;
             }
-            Group::Stray => {
+            Fate::Stray => {
                 // "Another of 1..6: stray streak up, dead streak zero. At 3,
                 // flag 15 is set, the pattern is forgotten and the stray
                 // streak returns to zero."
@@ -120,12 +124,14 @@ impl Drive {
         }
         // "The still count is zero after a newly kept pattern; otherwise it
         // grows to at most 4096."
-        match group {
-            Group::First | Group::Next | Group::Previous => self.still_count = 0,
-            Group::Dead | Group::Same | Group::Stray => {
+        match fate {
+            Fate::First | Fate::Forward | Fate::Back => self.still_count = 0,
+            Fate::Dead | Fate::Same | Fate::Stray => {
                 self.still_count = (self.still_count + 1).min(FULL_STILL_COUNT);
             }
         }
+        // Also of the sample that makes flag 15 and forgets the pattern.
+        fate
     }
 
     fn count_cycle(&mut self, samples: Pair<i64>) {

@@ -1,7 +1,7 @@
 //! The drive state, the load call, the answer and the gates.
 
 use crate::flag::Flag;
-use crate::hall::{Layout, THREE_SENSORS};
+use crate::hall::{Fate, Layout, THREE_SENSORS};
 use crate::load::Load;
 use crate::settings::Settings;
 use crate::state::State;
@@ -69,7 +69,8 @@ pub enum Gate {
 /// "its answer: number, place, state, gate, live word, speed reference,
 /// position, angle, two offsets, retries used", in the widths of the paper:
 /// "The live word has 16 bits, the position 32; reference and angle are
-/// signed 16-bit."
+/// signed 16-bit."  M-105 adds the fate: "Cycle passes the name on in its
+/// answer".
 #[derive(Clone, Debug, PartialEq, Eq)]
 pub struct Answer {
     pub number: u8,
@@ -82,6 +83,16 @@ pub struct Answer {
     pub angle: i16,
     pub offsets: Pair<u16>,
     pub retries_used: u16,
+    /// None but in the answer of an accepted cycle: a refused sample is not
+    /// judged, and no other call takes one.
+    pub fate: Option<Fate>,
+}
+
+impl Answer {
+    /// "one letter (F, S, W, B, D, X, or a full stop otherwise)"
+    pub fn fate_letter(&self) -> char {
+        self.fate.map_or('.', Fate::letter)
+    }
 }
 
 /// The numbers of the table of refusals.
@@ -220,7 +231,8 @@ impl Drive {
         self.speed_reference_times_2048 / 2048
     }
 
-    /// The answer that shows this drive state.
+    /// The answer that shows this drive state.  The fate is not part of that:
+    /// it is a sample's and not kept.
     pub fn answer(&self, number: u8, place: u8) -> Answer {
         Answer {
             number,
@@ -236,6 +248,7 @@ impl Drive {
                 second: self.offsets.second as u16,
             },
             retries_used: self.retries_used as u16,
+            fate: None,
         }
     }
 

@@ -1,4 +1,4 @@
-//! Hall patterns: the layouts, the group of a pattern, the steps and the
+//! Hall patterns: the layouts, the fate of a sample, the steps and the
 //! angles.
 
 /// The twelve angles: entry k is k times 30 degrees.
@@ -60,21 +60,47 @@ pub static TWO_SENSORS: Layout = Layout {
 pub static LAYOUTS: [&Layout; 2] = [&THREE_SENSORS, &TWO_SENSORS];
 
 /// "Each pattern from 0 to 7 falls in one group against the kept pattern".
-/// With two sensors "1..6" reads as the patterns of that layout.
+/// With two sensors "1..6" reads as the patterns of that layout.  The groups
+/// have the names of M-105: "The sample judgement must name it: first, same,
+/// forward, back, dead or stray."
 #[derive(Clone, Copy, Debug, PartialEq, Eq)]
-pub enum Group {
-    /// "0 or 7"
-    Dead,
+pub enum Fate {
     /// "Any of 1..6 with none kept"
     First,
     /// "Same as kept"
     Same,
     /// "Next", that is one place on in clockwise order
-    Next,
+    Forward,
     /// "or previous"
-    Previous,
+    Back,
+    /// "0 or 7"
+    Dead,
     /// "Another of 1..6"
     Stray,
+}
+
+pub const ALL_FATES: [Fate; 6] = [
+    Fate::First,
+    Fate::Same,
+    Fate::Forward,
+    Fate::Back,
+    Fate::Dead,
+    Fate::Stray,
+];
+
+impl Fate {
+    /// "one letter (F, S, W, B, D, X ..)", in the order of the names: F and S
+    /// being taken by first and same, forward is W and stray X.
+    pub fn letter(self) -> char {
+        match self {
+            Fate::First => 'F',
+            Fate::Same => 'S',
+            Fate::Forward => 'W',
+            Fate::Back => 'B',
+            Fate::Dead => 'D',
+            Fate::Stray => 'X',
+        }
+    }
 }
 
 impl Layout {
@@ -105,21 +131,22 @@ impl Layout {
         self.clockwise[(self.sector(pattern) + sectors - 1) % sectors]
     }
 
-    pub fn group(&self, pattern: i64, kept: Option<i64>) -> Group {
+    /// The sample judgement.
+    pub fn fate(&self, pattern: i64, kept: Option<i64>) -> Fate {
         if self.dead.contains(&pattern) {
-            return Group::Dead;
+            return Fate::Dead;
         }
         match kept {
-            None => Group::First,
+            None => Fate::First,
             Some(kept) => {
                 if pattern == kept {
-                    Group::Same
+                    Fate::Same
                 } else if pattern == self.next_pattern(kept) {
-                    Group::Next
+                    Fate::Forward
                 } else if pattern == self.previous_pattern(kept) {
-                    Group::Previous
+                    Fate::Back
                 } else {
-                    Group::Stray
+                    Fate::Stray
                 }
             }
         }

@@ -1,5 +1,5 @@
 //! An independent model of the drive supervisor that document 01 defines,
-//! with the requests of document 02 that have landed (M-101, M-102).
+//! with the requests of document 02 that have landed (M-101 to M-105).
 //!
 //! It was written from these (with the readings of `readings.md` and
 //! `readings-requests.md`) and from nothing else, so that it can be compared,
@@ -15,7 +15,7 @@
 //! * `drive`     the drive state, load, the answer, the gates,
 //! * `fields`    fields of a cycle and a tick: ranges and bytes,
 //! * `cycle`     the cycle call,
-//! * `hall`      Hall layouts, groups, steps and angles,
+//! * `hall`      Hall layouts, fates, steps and angles,
 //! * `tick_fields` the fields of a tick: ranges, command, target,
 //! * `tick`      the tick call: move, speed reference,
 //! * `causes`    the causes that set flags,
@@ -31,9 +31,9 @@
 //! `reached` counts what a stream reaches; `bench_stream` and `bench_reached`
 //! do so for `benchline`, `block_stream` and `block_reached` for `blockline`.
 //! `sketch` draws the images of both, damaged ones too, `damage` tells what is
-//! wrong with one, `image_rows` what is counted of it; `counts` holds names
-//! against a list, and `written_stream` is what the programs that write a
-//! stream share.
+//! wrong with one, `image_rows` what is counted of it; `fate_rows` is what is
+//! counted of the letter of M-105, `counts` holds names against a list, and
+//! `written_stream` is what the programs that write a stream share.
 
 pub mod bench_reached;
 pub mod bench_stream;
@@ -47,6 +47,7 @@ pub mod counts;
 pub mod cycle;
 pub mod damage;
 pub mod drive;
+pub mod fate_rows;
 pub mod fields;
 pub mod flag;
 pub mod generator;
@@ -70,7 +71,7 @@ pub mod written_stream;
 pub use cycle::CycleFields;
 pub use drive::{Answer, Drive, Gate, Pair, Refusal, Reply};
 pub use flag::Flag;
-pub use hall::Layout;
+pub use hall::{Fate, Layout};
 pub use line::report_line;
 pub use record::Record;
 pub use settings::{Setting, Settings};

@@ -3,7 +3,9 @@
 use crate::drive::{Answer, Refusal};
 use crate::state::NAMES;
 
-pub const LINE_LENGTH: usize = 45;
+/// 01's "45 bytes", and what M-105 adds: "the report line gains a space and one
+/// letter [..] before the line feed".
+pub const LINE_LENGTH: usize = 47;
 
 const NO_LINE: u8 = Refusal::NoLineOrImage as u8;
 
@@ -12,12 +14,14 @@ const NO_LINE: u8 = Refusal::NoLineOrImage as u8;
 /// "The line call answers number and place only."  "of two rows with one
 /// number, the upper first": few lent bytes before a bad answer.
 pub fn report_line(answer: &Answer, lent: &mut [u8]) -> (u8, u8) {
-    // "fewer than 45 lent bytes for a line"
+    // "fewer than 45 lent bytes for a line"; M-105: "number 5 now applies below
+    // 47 bytes"
     if lent.len() < LINE_LENGTH {
         return (NO_LINE, 0);
     }
     // "answer to print has number above 15, state above 9 or gate above 3":
-    // "1, 2 or 3, the first"
+    // "1, 2 or 3, the first".  No fate is a bad one: what is none of the six is
+    // a full stop.
     if answer.number > 15 {
         return (NO_LINE, 1);
     }
@@ -28,7 +32,7 @@ pub fn report_line(answer: &Answer, lent: &mut [u8]) -> (u8, u8) {
         return (NO_LINE, 3);
     }
     let line = line_text(answer);
-    // "45 bytes, lent bytes after them unchanged"
+    // "lent bytes after them unchanged"
     lent[..LINE_LENGTH].copy_from_slice(line.as_bytes());
     (0, 0)
 }
@@ -36,10 +40,11 @@ pub fn report_line(answer: &Answer, lent: &mut [u8]) -> (u8, u8) {
 /// "number, one hex digit; space; name of the state, padded with full stops
 /// to twelve; space; gate; space; live word, 4 hex; space; speed reference,
 /// sign and 5 digits; space; position, 8 hex; space; angle, sign and 5
-/// digits; line feed. Hex is upper case; zero has a plus."
+/// digits; line feed. Hex is upper case; zero has a plus."  M-105: "a space and
+/// one letter [..] before the line feed".
 fn line_text(answer: &Answer) -> String {
     format!(
-        "{:X} {:.<12} {} {:04X} {} {:08X} {}\n",
+        "{:X} {:.<12} {} {:04X} {} {:08X} {} {}\n",
         answer.number,
         NAMES[answer.state as usize],
         answer.gate,
@@ -47,6 +52,7 @@ fn line_text(answer: &Answer) -> String {
         sign_and_five_digits(answer.speed_reference),
         answer.position,
         sign_and_five_digits(answer.angle),
+        answer.fate_letter(),
     )
 }
 

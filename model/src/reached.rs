@@ -30,6 +30,7 @@ macro_rules! counted_names {
 }
 
 mod commands;
+mod ends;
 mod faults;
 mod flags;
 mod hall;
@@ -39,8 +40,10 @@ mod running;
 mod sensors;
 mod thresholds;
 
+use crate::counts::of_layout;
 use crate::drive::{Answer, Drive};
-use crate::hall::{Layout, TWO_SENSORS};
+use crate::fate_rows::{self, FateWatch};
+use crate::hall::Layout;
 use crate::record::{read_head, record_length, Head, Record};
 use crate::state::State;
 use sensors::loaded_by;
@@ -68,6 +71,7 @@ pub struct Watch {
     /// How the settings came, and those before them.
     pub loaded: Loaded,
     pub loaded_before: Loaded,
+    pub fates: FateWatch,
 }
 
 /// By which record the settings came.
@@ -104,53 +108,24 @@ impl Reached {
         self.count("streams");
         let mut drive = Drive::power_up();
         let mut rest = stream;
-        loop {
-            match read_head(rest) {
-                Head::End => {
-                    self.count("end between records");
-                    return;
-                }
-                Head::Unknown(_) => {
-                    self.count("records");
-                    self.count("refused 6 at 0: unknown letter");
-                    return;
-                }
-                Head::Short(letter) => {
-                    self.count("records");
-                    self.short_record(letter, rest.len(), drive.state);
-                    return;
-                }
-                Head::Whole(record) => {
-                    let length = record_length(record.letter()).expect("a known letter");
-                    rest = &rest[length..];
-                    let reply = record.call(&drive);
-                    self.observe(&Seen {
-                        before: &drive,
-                        record: &record,
-                        after: &reply.drive,
-                        answer: &reply.answer,
-                    });
-                    drive = reply.drive;
-                }
-            }
+        while let Head::Whole(record) = read_head(rest) {
+            let length = record_length(record.letter()).expect("a known letter");
+            rest = &rest[length..];
+            let reply = record.call(&drive);
+            self.observe(&Seen {
+                before: &drive,
+                record: &record,
+                after: &reply.drive,
+                answer: &reply.answer,
+            });
+            drive = reply.drive;
         }
-    }
-
-    fn short_record(&mut self, letter: u8, length: usize, state: State) {
-        let loads = letter == b'L' || letter == b'M';
-        let name = format!("refused 6 at 0: short {}", letter as char);
-        let loadable = matches!(state, State::Idle | State::Stop);
-        self.count_if(loads && !loadable, format!("{name} where 4 would hold"));
-        let whole_with_24 = record_length(b'L').is_some_and(|needed| length >= needed);
-        self.count_if(loads && whole_with_24, SHORT_BY_ITS_25TH);
-        if !loads && state == State::Idle {
-            self.count("refused 6 at 0: short C or T where 3 would hold");
-        }
-        self.count(name);
+        self.observe_end(rest, &drive);
     }
 
     fn observe(&mut self, seen: &Seen) {
         self.count("records");
+        self.observe_fate(seen);
         self.observe_moves(seen);
         self.observe_flags(seen);
         if seen.answer.number != 0 {
@@ -176,6 +151,14 @@ impl Reached {
                 self.observe_commands(seen, fields);
                 self.watch.newly_kept_since_tick = false;
             }
+        }
+    }
+
+    fn observe_fate(&mut self, seen: &Seen) {
+        let letter = seen.record.letter() as char;
+        let fates = &mut self.watch.fates;
+        for name in fates.names(letter, seen.before, seen.after, seen.answer) {
+            self.count(name);
         }
     }
 
@@ -245,40 +228,16 @@ fn joined(names: Vec<String>) -> String {
     }
 }
 
-/// The name of what is listed for each layout.
-fn of_layout(layout: &Layout, name: impl AsRef<str>) -> String {
-    let two = *layout == TWO_SENSORS;
-    format!(
-        "{}{}",
-        if two { "two sensors: " } else { "" },
-        name.as_ref()
-    )
-}
-
-const SHORT_BY_ITS_25TH: &str = "refused 6 at 0: short M with 24 whole numbers";
-
 /// Everything that streams can reach.
 pub fn list() -> Vec<String> {
     let mut list = Vec::new();
-    let of_streams = [
-        "streams",
-        "records",
-        "end between records",
-        "refused 6 at 0: unknown letter",
-        "refused 6 at 0: short L",
-        "refused 6 at 0: short M",
-        "refused 6 at 0: short C",
-        "refused 6 at 0: short T",
-        "refused 6 at 0: short L where 4 would hold",
-        "refused 6 at 0: short M where 4 would hold",
-        SHORT_BY_ITS_25TH,
-        "refused 6 at 0: short C or T where 3 would hold",
-    ];
-    add_all(&mut list, &of_streams);
+    add_all(&mut list, &["streams", "records"]);
+    ends::add_to_list(&mut list);
     moves::add_to_list(&mut list);
     flags::add_to_list(&mut list);
     loads::add_to_list(&mut list);
     hall::add_to_list(&mut list);
+    list.extend(fate_rows::list(&['L', 'M', 'C', 'T'], &[ends::NUMBER_6]));
     sensors::add_to_list(&mut list);
     thresholds::add_to_list(&mut list);
     running::add_to_list(&mut list);

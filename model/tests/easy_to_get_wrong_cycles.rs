@@ -166,9 +166,12 @@ fn a_reference_between_minus_1_and_0_prints_a_plus() {
         },
     );
     assert_eq!(drive.speed_reference_times_2048, -64);
-    let mut line = [0; 45];
+    let mut line = [0; 47];
     assert_eq!(report_line(&shown(&drive), &mut line), (0, 0));
-    assert_eq!(&line[..], b"0 MOTORRUN.... 2 0000 +00000 00000000 -05462\n");
+    assert_eq!(
+        &line[..],
+        b"0 MOTORRUN.... 2 0000 +00000 00000000 -05462 .\n"
+    );
 }
 
 #[test]

@@ -1,6 +1,6 @@
 //! The report line call.
 
-use model::{report_line, Answer, Pair};
+use model::{report_line, Answer, Fate, Pair};
 
 fn answer() -> Answer {
     Answer {
@@ -17,19 +17,21 @@ fn answer() -> Answer {
             second: 2,
         },
         retries_used: 3,
+        fate: Some(Fate::Back),
     }
 }
 
-/// "45 bytes, lent bytes after them unchanged".
+/// "45 bytes, lent bytes after them unchanged", and by M-105 "a space and one
+/// letter": 47.
 #[test]
 fn line_of_an_answer() {
     let mut lent = [b'#'; 50];
     assert_eq!(report_line(&answer(), &mut lent), (0, 0));
     assert_eq!(
         &lent[..],
-        b"F ANGLESENSING 3 ABCD -32768 DEADBEEF -00001\n#####"
+        b"F ANGLESENSING 3 ABCD -32768 DEADBEEF -00001 B\n###"
     );
-    let mut lent = [b'#'; 45];
+    let mut lent = [b'#'; 47];
     assert_eq!(
         report_line(
             &Answer {
@@ -40,7 +42,10 @@ fn line_of_an_answer() {
         ),
         (0, 0)
     );
-    assert_eq!(&lent[..], b"F ANGLESENSING 3 ABCD -32768 DEADBEEF +00000\n");
+    assert_eq!(
+        &lent[..],
+        b"F ANGLESENSING 3 ABCD -32768 DEADBEEF +00000 B\n"
+    );
 }
 
 /// Number 5: few lent bytes first, then number, state, gate; no lent byte
@@ -54,9 +59,9 @@ fn line_refused() {
         ..answer()
     };
     let cases = [
-        (44, worst.clone(), 0),
+        (46, worst.clone(), 0),
         (0, worst.clone(), 0),
-        (45, worst.clone(), 1),
+        (47, worst.clone(), 1),
         (
             60,
             Answer {
@@ -66,7 +71,7 @@ fn line_refused() {
             2,
         ),
         (
-            45,
+            47,
             Answer {
                 number: 0,
                 state: 0,
@@ -74,7 +79,8 @@ fn line_refused() {
             },
             3,
         ),
-        (44, answer(), 0),
+        (46, answer(), 0),
+        (45, answer(), 0),
     ];
     for (length, answer, place) in cases {
         let mut lent = vec![b'#'; length];

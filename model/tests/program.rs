@@ -5,8 +5,8 @@ use common::*;
 use model::program::run;
 use model::{CycleFields, Record, TickFields};
 
-const IDLE: &str = "IDLE........ 0 0000 +00000 00000000 +00000\n";
-const STOP: &str = "STOP........ 0 0000 +00000 00000000 +00000\n";
+const IDLE: &str = "IDLE........ 0 0000 +00000 00000000 +00000 .\n";
+const STOP: &str = "STOP........ 0 0000 +00000 00000000 +00000 .\n";
 
 fn cycle_record(pattern: i64) -> Record {
     Record::Cycle(CycleFields {
@@ -23,6 +23,9 @@ fn lines(input: &[u8]) -> String {
     String::from_utf8(run(input)).unwrap()
 }
 
+/// 01's six lines, with the letters of M-105: of the cycle refused with 3 none,
+/// of the load none, of the first pattern F, of the step from 1 to 3 W, of the
+/// ticks none.
 #[test]
 fn six_lines_of_the_example() {
     let input = bytes(&[
@@ -37,12 +40,12 @@ fn six_lines_of_the_example() {
         }),
     ]);
     let expected = "\
-3 IDLE........ 0 0000 +00000 00000000 +00000
-0 STOP........ 0 0000 +00000 00000000 +00000
-0 STOP........ 0 0000 +00000 00000000 -05462
-0 STOP........ 0 0000 +00000 00000001 +00000
-0 OFFSETCAL... 0 0000 +00000 00000001 +00000
-0 FAULT....... 0 0004 +00000 00000001 +00000
+3 IDLE........ 0 0000 +00000 00000000 +00000 .
+0 STOP........ 0 0000 +00000 00000000 +00000 .
+0 STOP........ 0 0000 +00000 00000000 -05462 F
+0 STOP........ 0 0000 +00000 00000001 +00000 W
+0 OFFSETCAL... 0 0000 +00000 00000001 +00000 .
+0 FAULT....... 0 0004 +00000 00000001 +00000 .
 ";
     assert_eq!(lines(&input), expected);
 }
@@ -105,7 +108,7 @@ fn record_m_with_three_sensors_is_l() {
     let record = Record::LoadWithSensors(with_sensors(&[], 3));
     let by_m = [bytes(&[record]), rest].concat();
     assert_eq!(lines(&by_m), lines(&by_l));
-    assert!(lines(&by_m).ends_with("0 STOP........ 0 8000 +00000 FFFFFFFF -21846\n"));
+    assert!(lines(&by_m).ends_with("0 STOP........ 0 8000 +00000 FFFFFFFF -21846 D\n"));
 }
 
 /// "Input that ends between records adds no line."
@@ -152,7 +155,7 @@ fn short_record_makes_no_call() {
     for short in [b"L\0\0", b"M\0\0"] {
         let mut input = bytes(&[Record::Load(EXAMPLE), Record::Tick(low())]);
         input.extend(short);
-        let offsetcal = "OFFSETCAL... 0 0000 +00000 00000000 +00000\n";
+        let offsetcal = "OFFSETCAL... 0 0000 +00000 00000000 +00000 .\n";
         assert_eq!(lines(&input), format!("0 {STOP}0 {offsetcal}6 {offsetcal}"));
     }
 }
@@ -169,7 +172,7 @@ fn refusals_do_not_end_the_run() {
         Record::Tick(low()),
         Record::Load(EXAMPLE),
     ]);
-    let offsetcal = "OFFSETCAL... 0 0000 +00000 00000000 +00000\n";
+    let offsetcal = "OFFSETCAL... 0 0000 +00000 00000000 +00000 .\n";
     let expected = format!("2 {IDLE}0 {STOP}1 {STOP}0 {offsetcal}4 {offsetcal}");
     assert_eq!(lines(&input), expected);
 }

@@ -43,12 +43,12 @@ fn streams_have_as_many_records_as_asked() {
     assert!(ends(true) >= 10 && ends(false) >= 10);
 }
 
-/// One line of 45 bytes for each record.
+/// One line of 47 bytes for each record.
 #[test]
 fn one_line_per_record() {
     for seed in 0..20 {
         let stream = stream(seed, 1000);
-        assert_eq!(run(&stream).len(), 45 * 1000);
+        assert_eq!(run(&stream).len(), 47 * 1000);
     }
 }
 

@@ -3,7 +3,7 @@
 
 mod common;
 use common::*;
-use model::hall::{Group, ANGLES, LAYOUTS, THREE_SENSORS, TWO_SENSORS};
+use model::hall::{Fate, ANGLES, LAYOUTS, THREE_SENSORS, TWO_SENSORS};
 use model::state::ALL_STATES;
 use model::{CycleFields, Drive, State};
 
@@ -88,7 +88,7 @@ fn a_full_turn_is_six_counts_either_way() {
 /// Each pattern against each that can be kept, "none kept" being another
 /// thing than pattern 0: the opposite sector alone is stray.
 #[test]
-fn groups_of_two_sensors() {
+fn fates_of_two_sensors() {
     let opposite = |pattern| match pattern {
         1 => 2,
         2 => 1,
@@ -96,13 +96,13 @@ fn groups_of_two_sensors() {
         _ => 3,
     };
     for pattern in 0..=3 {
-        assert_eq!(TWO_SENSORS.group(pattern, None), Group::First);
+        assert_eq!(TWO_SENSORS.fate(pattern, None), Fate::First);
         for kept in 0..=3 {
             let stray = pattern == opposite(kept);
-            let group = TWO_SENSORS.group(pattern, Some(kept));
-            assert_eq!(group == Group::Stray, stray, "{pattern} after {kept}");
-            assert_eq!(group == Group::Same, pattern == kept);
-            assert_ne!(group, Group::Dead);
+            let fate = TWO_SENSORS.fate(pattern, Some(kept));
+            assert_eq!(fate == Fate::Stray, stray, "{pattern} after {kept}");
+            assert_eq!(fate == Fate::Same, pattern == kept);
+            assert_ne!(fate, Fate::Dead);
         }
     }
     let kept = cycle(&small_pump(&[]), 0);

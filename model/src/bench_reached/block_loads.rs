@@ -1,6 +1,6 @@
 //! Block loads and flag 12 (M-102), in the streams of `benchline`.
 
-use super::{has_bad_sensors, BenchReached};
+use super::{has_bad_sensors, letter, BenchReached};
 use crate::benchline::BenchRecord;
 use crate::drive::{Answer, Drive, Reply};
 use crate::flag::Flag;
@@ -107,14 +107,6 @@ pub fn bad(rest: &[u8]) -> &'static str {
         Some(length) if length <= MOST_BYTES => SHORT[2],
         Some(length) if rest.len() >= 4 + length => SHORT[3],
         Some(_) => SHORT[4],
-    }
-}
-
-fn letter(record: &BenchRecord) -> char {
-    match record {
-        BenchRecord::AsInShiftline(record) => record.letter() as char,
-        BenchRecord::Numbers(_) => 'N',
-        BenchRecord::Block { .. } => 'B',
     }
 }
 

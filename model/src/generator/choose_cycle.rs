@@ -4,7 +4,7 @@ use super::mood::HallMood;
 use super::Generator;
 use crate::cycle::CycleFields;
 use crate::drive::Pair;
-use crate::hall::Group;
+use crate::hall::Fate;
 use crate::record::Record;
 
 /// What a cycle does, seen from the kept pattern.
@@ -56,7 +56,7 @@ impl Generator {
             Wish::Dead | Wish::Stray => {
                 let all = layout.clockwise.iter().copied();
                 let strays: Vec<i64> = all
-                    .filter(|&pattern| layout.group(pattern, Some(kept)) == Group::Stray)
+                    .filter(|&pattern| layout.fate(pattern, Some(kept)) == Fate::Stray)
                     .collect();
                 self.random.pick(&strays)
             }

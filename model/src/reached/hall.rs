@@ -1,4 +1,4 @@
-//! Hall groups, position, angle, still count and offsets.
+//! Hall samples, position, angle, still count and offsets.
 //!
 //! What depends on the layout is listed and counted for each; the names of two
 //! sensors begin with these words.
@@ -6,7 +6,7 @@
 use super::{add_all, of_layout, states_but_idle, Reached, Seen};
 use crate::causes::FULL_STILL_COUNT;
 use crate::cycle::CycleFields;
-use crate::hall::{Group, Layout, LAYOUTS};
+use crate::hall::{Fate, Layout, LAYOUTS};
 use crate::settings::Setting;
 use crate::state::State;
 
@@ -45,8 +45,8 @@ pub fn add_to_list(list: &mut Vec<String>) {
         let names = names_of(layout);
         list.extend(names.into_iter().map(|name| of_layout(layout, name)));
     }
-    for group in ["First", "Same", "Next", "Previous", "Stray"] {
-        list.push(format!("hall dead streak of 1 ended by {group}"));
+    for fate in ["First", "Same", "Forward", "Back", "Stray"] {
+        list.push(format!("hall dead streak of 1 ended by {fate}"));
     }
     list.push("hall dead streak of 2 ended by First".to_string());
     for prescaler in 0..=7 {
@@ -63,16 +63,16 @@ fn names_of(layout: &Layout) -> Vec<String> {
     for &pattern in layout.clockwise {
         names.push(format!("hall first {pattern}"));
         for &other in layout.clockwise {
-            let group = layout.group(other, Some(pattern));
-            names.push(pair_name(group, pattern, other));
+            let fate = layout.fate(other, Some(pattern));
+            names.push(pair_name(fate, pattern, other));
         }
         names.extend(wraps_after(
             layout.step(pattern, layout.next_pattern(pattern)),
         ));
     }
-    for group in [Group::Dead, Group::Same, Group::Next, Group::Previous] {
-        if group != Group::Dead || !layout.dead.is_empty() {
-            names.push(stray_end_name(group));
+    for fate in [Fate::Dead, Fate::Same, Fate::Forward, Fate::Back] {
+        if fate != Fate::Dead || !layout.dead.is_empty() {
+            names.push(stray_end_name(fate));
         }
     }
     for state in states_but_idle() {
@@ -84,12 +84,12 @@ fn names_of(layout: &Layout) -> Vec<String> {
     names
 }
 
-fn pair_name(group: Group, kept: i64, pattern: i64) -> String {
-    format!("hall {group:?} {kept} -> {pattern}").to_lowercase()
+fn pair_name(fate: Fate, kept: i64, pattern: i64) -> String {
+    format!("hall {fate:?} {kept} -> {pattern}").to_lowercase()
 }
 
-fn stray_end_name(group: Group) -> String {
-    format!("hall stray streak of 2 ended by {group:?}")
+fn stray_end_name(fate: Fate) -> String {
+    format!("hall stray streak of 2 ended by {fate:?}")
 }
 
 /// Through 0 by a step of this width, upward and downward.
@@ -106,16 +106,16 @@ impl Reached {
     pub(super) fn observe_hall(&mut self, seen: &Seen, fields: &CycleFields) {
         let (before, after) = (seen.before, seen.after);
         let (pattern, layout) = (fields.pattern, before.layout);
-        let group = layout.group(pattern, before.kept_pattern);
+        let fate = layout.fate(pattern, before.kept_pattern);
         self.count_of(layout, format!("cycle in {}", before.state.name()));
-        let name = match (group, before.kept_pattern) {
-            (Group::Dead, _) => format!("hall dead {pattern}"),
+        let name = match (fate, before.kept_pattern) {
+            (Fate::Dead, _) => format!("hall dead {pattern}"),
             (_, None) => format!("hall first {pattern}"),
-            (_, Some(kept)) => pair_name(group, kept, pattern),
+            (_, Some(kept)) => pair_name(fate, kept, pattern),
         };
         self.count_of(layout, name);
         let none_kept = before.kept_pattern.is_none();
-        if group == Group::Dead {
+        if fate == Fate::Dead {
             self.count_if(none_kept, Name::DeadWithNoneKept);
             self.count_if(
                 !none_kept && after.kept_pattern.is_none(),
@@ -124,16 +124,16 @@ impl Reached {
             self.count_if(before.dead_streak == 2, Name::DeadStreakStays);
         } else if before.dead_streak > 0 {
             let streak = before.dead_streak;
-            self.count(format!("hall dead streak of {streak} ended by {group:?}"));
+            self.count(format!("hall dead streak of {streak} ended by {fate:?}"));
         }
         if before.stray_streak == 2 {
-            if group == Group::Stray {
+            if fate == Fate::Stray {
                 self.count_of(layout, Each::ThirdStrayForgets);
             } else {
-                self.count_of(layout, stray_end_name(group));
+                self.count_of(layout, stray_end_name(fate));
             }
         }
-        self.observe_steps(seen, group, pattern);
+        self.observe_steps(seen, fate, pattern);
         self.observe_still_count(seen, none_kept);
         let added = before.settings.offset_cycles();
         self.count_if(
@@ -143,15 +143,15 @@ impl Reached {
         self.count_if(before.cycles_in_state == 65535, Name::CycleCountFull);
     }
 
-    fn observe_steps(&mut self, seen: &Seen, group: Group, pattern: i64) {
+    fn observe_steps(&mut self, seen: &Seen, fate: Fate, pattern: i64) {
         let (before, after) = (seen.before, seen.after);
         let watch = &mut self.watch;
-        watch.steps_forward = if group == Group::Next {
+        watch.steps_forward = if fate == Fate::Forward {
             watch.steps_forward + 1
         } else {
             0
         };
-        watch.steps_backward = if group == Group::Previous {
+        watch.steps_backward = if fate == Fate::Back {
             watch.steps_backward + 1
         } else {
             0
@@ -166,12 +166,12 @@ impl Reached {
             self.count_of(layout, Each::LongRunBackward);
         }
         let (from, to) = (before.position, after.position);
-        if (group == Group::Next && to < from) || (group == Group::Previous && to > from) {
+        if (fate == Fate::Forward && to < from) || (fate == Fate::Back && to > from) {
             self.count_of(layout, wrap_name(from, to));
         }
-        let angle = match (group, before.kept_pattern) {
-            (Group::First, _) => layout.middle_angle(pattern),
-            (Group::Next | Group::Previous, Some(kept)) => layout.boundary_angle(kept, pattern),
+        let angle = match (fate, before.kept_pattern) {
+            (Fate::First, _) => layout.middle_angle(pattern),
+            (Fate::Forward | Fate::Back, Some(kept)) => layout.boundary_angle(kept, pattern),
             _ => return,
         };
         self.watch.newly_kept_since_tick = true;

@@ -5,7 +5,7 @@ use super::{add_all, of_layout, states_but_idle, Loaded, Reached, Seen};
 use crate::cycle::CycleFields;
 use crate::drive::Refusal;
 use crate::flag::Flag;
-use crate::hall::{Group, Layout, THREE_SENSORS, TWO_SENSORS};
+use crate::hall::{Fate, Layout, THREE_SENSORS, TWO_SENSORS};
 use crate::load::{Load, BAD_SENSORS, SENSORS_PLACE};
 use crate::record::Record;
 use crate::settings::SETTINGS;
@@ -130,9 +130,9 @@ impl Reached {
 
     fn observe_two(&mut self, seen: &Seen, fields: &CycleFields) {
         let before = seen.before;
-        let group = before.layout.group(fields.pattern, before.kept_pattern);
+        let fate = before.layout.fate(fields.pattern, before.kept_pattern);
         self.count_if(
-            group == Group::First && before.state == State::Fault && strays_alone(seen),
+            fate == Fate::First && before.state == State::Fault && strays_alone(seen),
             Name::KeptInFault,
         );
     }
