@@ -1,4 +1,5 @@
-"""The form of a report line, as document 01's section "Report line and program" lays it down, and what its numbers mean.
+"""The form of a report line, as document 01's section "Report line and program" and M-105 of document 02 lay it down, and what its numbers
+and letters mean.
 
 Lines of every form of FORMS can be read, so that logs of earlier boards still are; lines are written in the first of them.
 A new form is one more entry of FORMS and a field of Report with a default for the lines that lack it."""
@@ -36,6 +37,9 @@ REFUSALS = {
     9: "block empty",
 }
 MOST_NUMBER = 15  # one digit
+# What became of a cycle's Hall sample: M-105. Any other line has the full stop, and a line of an earlier board tells of no sample.
+FATES = {"F": "first", "S": "same", "W": "forward", "B": "back", "D": "dead", "X": "stray"}
+NO_FATE = "."
 
 
 class Report(NamedTuple):
@@ -48,6 +52,7 @@ class Report(NamedTuple):
     reference: int
     position: int
     angle: int
+    fate: str = NO_FATE
 
 
 class Column(NamedTuple):
@@ -90,7 +95,7 @@ class Form:
         return " ".join(column.write(getattr(report, column.name)) for column in self.columns) + "\n"
 
 
-FORM_OF_45_BYTES = Form(
+FORM_OF_45_BYTES = Form(  # until M-105
     hexadecimal("number", 1),
     Column("state", 12, "|".join(re.escape(padded(state)) for state in STATES), lambda text: text.rstrip("."), padded),
     Column("gate", 1, f"[0-{len(GATES) - 1}]", int, str),
@@ -99,7 +104,11 @@ FORM_OF_45_BYTES = Form(
     hexadecimal("position", 8),
     signed("angle"),
 )
-FORMS = (FORM_OF_45_BYTES,)
+FORM_OF_47_BYTES = Form(
+    *FORM_OF_45_BYTES.columns,
+    Column("fate", 1, f"[{''.join(FATES)}{NO_FATE}]", str, str),
+)
+FORMS = (FORM_OF_47_BYTES, FORM_OF_45_BYTES)
 LENGTH = FORMS[0].length
 
 

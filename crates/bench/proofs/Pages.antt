@@ -23,10 +23,16 @@ pub more-five : (page : Page) (a b c d e : List ℕ)
 more-five page a b c d e =
     rw (more-more page a b, more-more page (a ++ b) c, more-more page (a ++ b ++ c) d, more-more page (a ++ b ++ c ++ d) e)
 
-pub more-seven : (page : Page) (a b c d e f g : List ℕ)
-    → more (more (more (more (more (more (more page a) b) c) d) e) f) g ≡ more page (a ++ b ++ c ++ d ++ e ++ f ++ g)
-more-seven page a b c d e f g =
-    rw (more-five page a b c d e, more-more page (a ++ b ++ c ++ d ++ e) f, more-more page (a ++ b ++ c ++ d ++ e ++ f) g)
+pub more-eight : (page : Page) (a b c d e f g h : List ℕ)
+    → more (more (more (more (more (more (more (more page a) b) c) d) e) f) g) h
+    ≡ more page (a ++ b ++ c ++ d ++ e ++ f ++ g ++ h)
+more-eight page a b c d e f g h =
+    rw (
+      more-five page a b c d e,
+      more-more page (a ++ b ++ c ++ d ++ e) f,
+      more-more page (a ++ b ++ c ++ d ++ e ++ f) g,
+      more-more page (a ++ b ++ c ++ d ++ e ++ f ++ g) h,
+    )
 
 -- what is put lies on the page
 pub size-within : (page : Page) (words : List ℕ) → more page words .size ≤ length (more page words .bytes)

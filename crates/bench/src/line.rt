@@ -5,7 +5,7 @@ use text::put;
 use text::put_decimal;
 use text::put_signed;
 ghost use mathlib.Core.Path.{_≡_};
-ghost use mathlib.Core.List.{_++_};
+ghost use mathlib.Core.List.{[], _∷_, _++_};
 ghost use Rattle.text.specs.Put.{behind, written};
 ghost use Rattle.text.specs.Decimal.{decimal, signedDecimal};
 ghost use Rattle.text.specs.Text.{text};
@@ -37,13 +37,12 @@ fn signed_field(page: Page, number: i16) -> Page
     Page { bytes, size }
 }
 
-// The last number of a line.
-fn last_field(page: Page, number: u64) -> Page
-    ensures { λ r. ⌜ r ≡ more page (decimal number ++ text "\n") ⌝ }
+// The letter that ends a line.
+fn last_letter(page: Page, letter: u8) -> Page
+    ensures { λ r. ⌜ r ≡ more page ((letter ∷ []) ++ text "\n") ⌝ }
 {
     let mut bytes = page.bytes;
-    let at = put_decimal(&mut bytes, page.size, number);
-    let size = put(&mut bytes, at, b"\n");
+    let size = put(&mut bytes, page.size, &[letter, b'\n']);
     Page { bytes, size }
 }
 
@@ -68,7 +67,9 @@ fn page_of(answer: Answer) -> Page
     let page = signed_field(page, answer.angle);
     let page = field(page, offsets.first as u64);
     let page = field(page, offsets.second as u64);
-    last_field(page, answer.retries as u64)
+    let page = field(page, answer.retries as u64);
+    let judged = answer.judged;
+    last_letter(page, judged.letter())
 }
 
 // A motor's line, from the first lent byte on; it tells how many bytes it has.

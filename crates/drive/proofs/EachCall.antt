@@ -14,15 +14,15 @@ use Rattle.verdicts.specs.Table.{verdict}
 use Rattle.verdicts.specs.declared.Verdict.{Verdict}
 use Rattle.images.specs.Image.{fifteen}
 use Rattle.images.specs.Reads.{isRead}
-use Rattle.drive.specs.Answer.{reply as replied}
+use Rattle.drive.specs.Answer.{replyTelling, reply as replied}
 use Rattle.drive.specs.Refusals.{loadRows, cycleRows, tickRows}
-use Rattle.drive.specs.Calls.{loaded, cycled, load, cycle}
+use Rattle.drive.specs.Calls.{loaded, judgedBy, cycled, load, cycle}
 use Rattle.drive.specs.Blocks.{blockNumbers, blockRows, marked, leftByBlock, blockLoad}
 use Rattle.drive.specs.Ticks.{ticked, tick}
 use Rattle.drive.specs.AnyCall.{Call, loads, cycles, ticks, blockLoads, reply}
 use Rattle.drive.specs.declared.Drive.{Drive}
 use Rattle.drive.specs.declared.answer.Reply.{Reply}
-use Rattle.drive.proofs.Settles.{settles}
+use Rattle.drive.proofs.Settles.{settles-telling, settles}
 
 module _ (d : Drive) where
   -- refused, it sets flag 12
@@ -42,7 +42,10 @@ module _ (d : Drive) where
           (image : List ℕ) (block : ℕ)
           → verdict (blockRows d image block) .number ≡ 0
           → P (blockLoads image block) (replied 0 0 (loaded (meant (blockNumbers image block))))
-      pub cycles-on : (c : Cycle) → verdict (cycleRows d c) .number ≡ 0 → P (cycles c) (replied 0 0 (cycled d c))
+      pub cycles-on :
+          (c : Cycle)
+          → verdict (cycleRows d c) .number ≡ 0
+          → P (cycles c) (replyTelling (judgedBy d c) 0 0 (cycled d c))
       pub ticks-on : (t : Tick) → verdict (tickRows d t) .number ≡ 0 → P (ticks t) (replied 0 0 (ticked d t))
       pub refuses : (call : Call) (number at : ℕ) → T (not (marks call)) → eqb number 0 ≡ false → P call (replied number at d)
       pub refuses-marked :
@@ -57,7 +60,8 @@ module _ (d : Drive) where
         settles (P (loads numbers)) (verdict (loadRows d numbers)) _ d (cases .loads-it numbers)
         (cases .refuses (loads numbers) _ _ tt)
     each-call cases (cycles c) =
-        settles (P (cycles c)) (verdict (cycleRows d c)) (cycled d c) d (cases .cycles-on c) (cases .refuses (cycles c) _ _ tt)
+        settles-telling (P (cycles c)) (judgedBy d c) (verdict (cycleRows d c)) (cycled d c) d (cases .cycles-on c)
+        (cases .refuses (cycles c) _ _ tt)
     each-call cases (ticks t) =
         settles (P (ticks t)) (verdict (tickRows d t)) (ticked d t) d (cases .ticks-on t) (cases .refuses (ticks t) _ _ tt)
     each-call cases (blockLoads image block) =

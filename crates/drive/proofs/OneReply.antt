@@ -23,3 +23,6 @@ answered κs given r s p q = same (p ∙⁻¹ q) refl
 
 pub load-block : OneReply promises.Drive.load_block.ended promises.Drive.load_block.Reads.Post
 load-block κs given r s p q = same (p ∙⁻¹ q) refl
+
+pub letter : OneReply promises.answer.Judged.letter.ended promises.answer.Judged.letter.Reads.Post
+letter κs given r s p q = same (p ∙⁻¹ q) refl

@@ -17,7 +17,7 @@ use Rattle.moves.proofs.Spin.{same-size, spun, move-same}
 use Rattle.verdicts.specs.Table.{verdict}
 use Rattle.verdicts.specs.declared.Verdict.{Verdict}
 use Rattle.drive.specs.Causes.{causes}
-use Rattle.drive.specs.Answer.{answer, reply}
+use Rattle.drive.specs.Answer.{answer, answerTelling, reply}
 use Rattle.drive.specs.Refusals.{tickRows}
 use Rattle.drive.specs.Calls.{settle}
 use Rattle.drive.specs.Ticks.{watch, standing, raised, armedBy, nth, grounds, chosen, moved, ticked, tick}
@@ -55,6 +55,7 @@ butReference a =
       angle = a .angle;
       offsets = a .offsets;
       retries = a .retries;
+      judged = a .judged;
     }
 
 module _ (d : Drive) (t : Tick) where
@@ -82,7 +83,7 @@ module _ (d : Drive) (t : Tick) where
   moved-same :
       (w : Watched) (flags : ℕ) (move : Move)
       → shown (reversed t) w flags move ≡ shown t w flags move
-  unfolding answer
+  unfolding answerTelling
   moved-same w flags Stay = refl
   moved-same w flags (Enter state) = refl
   moved-same w flags Measure = refl

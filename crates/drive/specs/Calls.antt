@@ -24,9 +24,11 @@ use Rattle.verdicts.specs.Table.{verdict}
 use Rattle.verdicts.specs.declared.Verdict.{Verdict}
 use Rattle.drive.specs.Offsets.{unmeasured, added}
 use Rattle.drive.specs.Refusals.{loadRows, cycleRows}
-use Rattle.drive.specs.Answer.{reply}
+use Rattle.drive.specs.Answer.{reply, replyTelling}
 use Rattle.drive.specs.declared.Drive.{Drive}
 use Rattle.drive.specs.declared.offsets.Offsets.{Offsets}
+use Rattle.drive.specs.declared.answer.Judged.{Judged}
+use Rattle.drive.specs.declared.answer.Judged.the-variants.{Nothing, Sample}
 use Rattle.drive.specs.declared.answer.Reply.{Reply}
 
 -- 02, M-101: "Setting 25 chooses 2 or 3 sensors"
@@ -77,8 +79,13 @@ becomes d state hall flags cycles ticks offsets run armed retries =
 
 -- What a call comes to: the next state, or the number and place of its refusal with the state that the refusal leaves.
 -- "A refusal changes no state ..; its other fields show the unchanged state.": each call below leaves the state that it was given.
+-- A refused call has judged no sample.
+abbrev pub settleTelling : Judged → Verdict → (next left : Drive) → Reply
+settleTelling judged v next left = cond (eqb (v .number) 0) (replyTelling judged 0 0 next) (reply (v .number) (v .place) left)
+
+-- and so has a load or a tick
 abbrev pub settle : Verdict → (next left : Drive) → Reply
-settle v next left = cond (eqb (v .number) 0) (reply 0 0 next) (reply (v .number) (v .place) left)
+settle = settleTelling Nothing
 
 -- "An accepted load gives STOP and clears everything else to power-up values"; "keeps its 24 settings as loaded", and beside them the
 -- sensors that setting 25 chooses
@@ -100,13 +107,20 @@ summed d c =
     (d .offsets)
 
 -- the sample is judged, "flag 15 is set" where it says so; "Cycles in the present state are counted to at most 65535."
-unfoldable pub cycled : Drive → Cycle → Drive
-cycled d c =
-    becomes d (d .state) (sample d c .hall) (d .flags or flag 15 (sample d c .flagged)) (up 65535 (d .cycles)) (d .ticks)
+abbrev pub cycledBy : Drive → Cycle → Sampled → Drive
+cycledBy d c sampled =
+    becomes d (d .state) (sampled .hall) (d .flags or flag 15 (sampled .flagged)) (up 65535 (d .cycles)) (d .ticks)
     (summed d c)
     (d .run)
     (d .armed)
     (d .retries)
 
+unfoldable pub cycled : Drive → Cycle → Drive
+cycled d c = cycledBy d c (sample d c)
+
+-- 02, M-105: "The sample judgement must name it ..; Cycle passes the name on in its answer"
+abbrev pub judgedBy : Drive → Cycle → Judged
+judgedBy d c = Sample (sample d c .fate)
+
 unfoldable pub cycle : Drive → Cycle → Reply
-cycle d c = settle (verdict (cycleRows d c)) (cycled d c) d
+cycle d c = settleTelling (judgedBy d c) (verdict (cycleRows d c)) (cycled d c) d

@@ -2,12 +2,19 @@
 use crate::Drive;
 use crate::causes::alive;
 use crate::offsets::Pair;
+use hall::fate::Fate;
 use states::State;
 use verdicts::Verdict;
 ghost use mathlib.Core.Path.{_≡_};
 ghost use mathlib.Core.Bool.{cond};
-ghost use Rattle.drive.specs.Answer.{gateOf, gate, reported, answer, reply};
-ghost use Rattle.drive.specs.Calls.{settle};
+ghost use Rattle.drive.specs.Answer.{letterOf, letter, gateOf, gate, reported, answer, answerTelling, replyTelling};
+ghost use Rattle.drive.specs.Calls.{settle, settleTelling};
+
+// What became of the sample, in the answer to an accepted cycle; any other answer tells of no sample.
+pub enum Judged {
+    Nothing,
+    Sample(Fate),
+}
 
 pub struct Answer {
     pub number: u8,
@@ -20,11 +27,37 @@ pub struct Answer {
     pub angle: i16,
     pub offsets: Pair,
     pub retries: u32,
+    pub judged: Judged,
 }
 
 pub struct Reply {
     pub drive: Drive,
     pub answer: Answer,
+}
+
+fn letter_of(fate: Fate) -> u8
+    ensures { λ r. ⌜ r ≡ letterOf fate ⌝ }
+{
+    match fate {
+        Fate::First => b'F',
+        Fate::Same => b'S',
+        Fate::Forward => b'W',
+        Fate::Back => b'B',
+        Fate::Dead => b'D',
+        Fate::Stray => b'X',
+    }
+}
+
+impl Judged {
+    // The paper's letter for it, and a full stop for no sample.
+    pub fn letter(self) -> u8
+        ensures { λ r. ⌜ r ≡ letter self ⌝ }
+    {
+        match self {
+            Judged::Nothing => b'.',
+            Judged::Sample(fate) => letter_of(fate),
+        }
+    }
 }
 
 // A choice by a test: the code's form of the definitions' `cond`, so that the two read alike.
@@ -54,9 +87,9 @@ fn reported(reference: i32) -> i16
     numbers::limited(reference / 2048)
 }
 
-// What the state shows under a number and a place: for a caller that refuses without a call.
-pub fn answered(drive: Drive, number: u8, place: u8) -> Answer
-    ensures { λ r. ⌜ r ≡ answer number place drive ⌝ }
+// What the state shows under a number and a place, with what was judged.
+fn telling(judged: Judged, drive: Drive, number: u8, place: u8) -> Answer
+    ensures { λ r. ⌜ r ≡ answerTelling judged number place drive ⌝ }
 {
     let state = drive.state;
     let run = drive.run;
@@ -74,13 +107,21 @@ pub fn answered(drive: Drive, number: u8, place: u8) -> Answer
         angle: drive.hall.angle,
         offsets,
         retries: drive.retries,
+        judged,
     }
 }
 
-fn replied(drive: Drive, number: u8, place: u8) -> Reply
-    ensures { λ r. ⌜ r ≡ reply number place drive ⌝ }
+// The same where no sample was judged: for a caller that refuses without a call.
+pub fn answered(drive: Drive, number: u8, place: u8) -> Answer
+    ensures { λ r. ⌜ r ≡ answer number place drive ⌝ }
 {
-    let answer = answered(drive, number, place);
+    telling(Judged::Nothing, drive, number, place)
+}
+
+fn replied(judged: Judged, drive: Drive, number: u8, place: u8) -> Reply
+    ensures { λ r. ⌜ r ≡ replyTelling judged number place drive ⌝ }
+{
+    let answer = telling(judged, drive, number, place);
     Reply { drive, answer }
 }
 
@@ -90,11 +131,30 @@ pub(crate) fn pick_drive(test: bool, yes: Drive, no: Drive) -> Drive
     if test { yes } else { no }
 }
 
-// What a call comes to: the next state where nothing refuses it, and else the state that the refusal leaves.
-pub(crate) fn settle(verdict: Verdict, next: Drive, left: Drive) -> Reply
-    ensures { λ r. ⌜ r ≡ settle verdict next left ⌝ }
+fn pick_judged(test: bool, yes: Judged, no: Judged) -> Judged
+    ensures { λ r. ⌜ r ≡ cond test yes no ⌝ }
+{
+    if test { yes } else { no }
+}
+
+// What a call comes to: the next state and what was judged where nothing refuses it, and else the state that the refusal leaves.
+pub(crate) fn settle_telling(judged: Judged, verdict: Verdict, next: Drive, left: Drive) -> Reply
+    ensures { λ r. ⌜ r ≡ settleTelling judged verdict next left ⌝ }
 {
     let accepted = verdict.number == 0;
     let place = pick_u8(accepted, 0, verdict.place);
-    replied(pick_drive(accepted, next, left), verdict.number, place)
+    let told = pick_judged(accepted, judged, Judged::Nothing);
+    replied(
+        told,
+        pick_drive(accepted, next, left),
+        verdict.number,
+        place,
+    )
+}
+
+// The same of a call that judges no sample.
+pub(crate) fn settle(verdict: Verdict, next: Drive, left: Drive) -> Reply
+    ensures { λ r. ⌜ r ≡ settle verdict next left ⌝ }
+{
+    settle_telling(Judged::Nothing, verdict, next, left)
 }

@@ -1,7 +1,9 @@
 // Power-up, load and cycle.
 use crate::Drive;
+use crate::answer::Judged;
 use crate::answer::Reply;
 use crate::answer::settle;
+use crate::answer::settle_telling;
 use crate::causes::HALL_PATTERN;
 use crate::fresh;
 use crate::offsets::Offsets;
@@ -10,6 +12,7 @@ use crate::refusals::awake;
 use crate::refusals::loadable;
 use faults::flag;
 use fields::Cycle;
+use hall::Sampled;
 use hall::layout::Sensors;
 use numbers::count_up;
 use numbers::signed;
@@ -29,7 +32,7 @@ ghost use lib.ListN.{length, take};
 ghost use Rattle.verdicts.specs.Table.{verdict};
 ghost use Rattle.settings.specs.Settings.{settingCount, allSettings, meant};
 ghost use Rattle.drive.specs.Refusals.{highestPattern, loadRows};
-ghost use Rattle.drive.specs.Calls.{powerUp, chosen, settle, loaded, load, summed, cycled, cycle};
+ghost use Rattle.drive.specs.Calls.{powerUp, chosen, settle, loaded, load, sample, summed, cycledBy, cycle};
 
 // The 25 settings that 24 or 25 numbers mean.
 pub(crate) fn completed(numbers: &[u16]) -> [u16; ALL_SETTINGS]
@@ -137,13 +140,18 @@ impl Drive {
         )
     }
 
-    fn cycled(self, cycle: Cycle) -> Drive
-        ensures { λ r. ⌜ r ≡ cycled self cycle ⌝ }
+    fn sample(self, cycle: Cycle) -> Sampled
+        ensures { λ r. ⌜ r ≡ sample self cycle ⌝ }
     {
         let settings = self.settings;
         let offset = signed(settings[HALL_ANGLE_OFFSET]);
         let sensors = self.sensors;
-        let sampled = self.hall.sampled(sensors, cycle.pattern, offset);
+        self.hall.sampled(sensors, cycle.pattern, offset)
+    }
+
+    fn cycled(self, cycle: Cycle, sampled: Sampled) -> Drive
+        ensures { λ r. ⌜ r ≡ cycledBy self cycle sampled ⌝ }
+    {
         let hall = sampled.hall;
         Drive {
             hall,
@@ -160,6 +168,9 @@ impl Drive {
         let state = self.state;
         let sensors = self.sensors;
         let verdict = awake(state, fields.verdict(highest_pattern(sensors)));
-        settle(verdict, self.cycled(fields), self)
+        let sampled = self.sample(fields);
+        let fate = sampled.fate;
+        let judged = Judged::Sample(fate);
+        settle_telling(judged, verdict, self.cycled(fields, sampled), self)
     }
 }

@@ -11,7 +11,7 @@ use borrow.Author.Tests.{eqb-true, eqb-false}
 use Rattle.drive.specs.AnyCall.{Call, reply}
 use Rattle.drive.specs.declared.Drive.{Drive}
 use Rattle.drive.specs.declared.answer.Answer.{Answer}
-use Rattle.report.specs.Line.{line}
+use Rattle.lines.specs.Earlier.{lineLike}
 use Rattle.lines.specs.Shown.{sameBytes, shownBy}
 use Rattle.lines.proofs.LineOf.{same-self}
 use Rattle.theorems_history.specs.Log.{Entry}
@@ -22,10 +22,11 @@ use Rattle.onlooker.specs.Past.{most}
 use Rattle.onlooker.specs.Tells.{heardOf}
 use Rattle.onlooker.specs.declared.Onlooker.{Onlooker}
 use Rattle.onlooker.proofs.Follows.{tells}
-use Rattle.judge.specs.Judged.{answerOf, kept, lineFor, differsNow, breaksNow, entryWith, numberOf}
+use Rattle.judge.specs.Judged.{answerOf, kept, lineFor, lineKept, differsNow, breaksNow, entryWith, numberOf}
 use Rattle.judge.specs.Printed.{Printed, judgeAll, boardLog, Readable, Supervised}
 use Rattle.judge.specs.First.{First, newest, earlier, Kept}
-use Rattle.judge.proofs.Silent.{said, hearing, read, drive-is, line-for, heard-is, length-log, heard-now}
+use Rattle.judge.proofs.Forms.{line-for}
+use Rattle.judge.proofs.Silent.{said, hearing, read, drive-is, heard-is, length-log, heard-now}
 use Rattle.judge.proofs.Silent.{no-line-differs, no-call-breaks}
 
 -- what is known of the calls: every line can be read, and 64 bits can number them
@@ -93,13 +94,15 @@ once-by number place is passes (first, stays) =
 
 -- a line that is the supervisor's is found the same
 same-line : (p : Printed) (before : List Printed) → Supervised (p ∷ before)
-    → T (sameBytes (lineFor (said p before .answer)) (p .line))
+    → T (sameBytes (lineFor (length (p .line)) (said p before .answer)) (lineKept (p .line)))
 unfolding Supervised
 same-line p before (is, others) =
     let d = judgeAll before .drive in
-    let expected : lineFor (said p before .answer) ≡ p .line =
-    line-for d (p .call) ∙ ap (λ (d : Drive). line (reply d (p .call) .answer)) (drive-is before) ∙ sym is in
-    rw expected (same-self (p .line))
+    let size = length (p .line) in
+    let as-found : lineLike size (said p before .answer) ≡ p .line =
+    ap (λ (d : Drive). lineLike size (reply d (p .call) .answer)) (drive-is before) ∙ sym is in
+    let expected : lineFor size (said p before .answer) ≡ lineKept (p .line) = line-for size d (p .call) ∙ ap lineKept as-found in
+    rw expected (same-self (lineKept (p .line)))
 
 differs-once : (p : Printed) (before : List Printed) → Judged (p ∷ before)
     → Once (judgeAll before .differs) (judgeAll (p ∷ before) .differs) (suc (length before)) (Supervised (p ∷ before))
@@ -107,7 +110,7 @@ unfolding judgeAll entryWith differsNow Readable
 differs-once p before judged =
     once-by (numberOf (judgeAll before)) (suc (length before)) (number-is p before judged) (same-line p before)
     (once (read p before) (judgeAll before .differs) (numberOf (judgeAll before))
-    (sameBytes (lineFor (said p before .answer)) (p .line)) (judged .0 .0))
+    (sameBytes (lineFor (length (p .line)) (said p before .answer)) (lineKept (p .line))) (judged .0 .0))
 
 no-difference-yet : judgeAll [] .differs ≡ 0
 unfolding judgeAll

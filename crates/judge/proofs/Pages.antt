@@ -7,7 +7,7 @@ use mathlib.Core.Path.{_≡_, refl, ap, sym, _∙_}
 use mathlib.Core.Bool.{Bool}
 use mathlib.Core.List.{List, [], _∷_, _++_, map}
 use lib.Dec.{eqb, ltb}
-use lib.ListN.{length, getD, take, drop, length-append, length-replicate}
+use lib.ListN.{length, getD, take, drop, length-append, length-take, length-replicate}
 use lib.Seq.{take-at}
 use Rattle.bytes.specs.Bytes.{indexOf, slice}
 use Rattle.text.specs.Put.{behind, written}
@@ -15,6 +15,7 @@ use Rattle.text.specs.Decimal.{column}
 use Rattle.text.proofs.Chains.{length-written, behind-behind, written-written, behind-front, written-front}
 use Rattle.text.proofs.Decimals.{at-most-twenty}
 use Rattle.numbers.proofs.Tests.{by-test}
+use Rattle.judge.specs.NextLine.{lineOf}
 use Rattle.judge.specs.Pages.{pageSize, blankPage, more, barred}
 use Rattle.judge.specs.Judged.{missing, leftOver, unreadable, refused, numberOf}
 use Rattle.judge.specs.Sentences.{differsWords, gatesWords, exitWords, retriesWords}
@@ -80,12 +81,17 @@ counting-within : (heard : ℕ) → Within 34 (counting heard)
 unfolding counting
 counting-within heard = simp length-append (omega (arith, at-most-twenty heard))
 
-differing-within : (number : ℕ) (expected found : List ℕ) → length expected ≡ 45 → length found ≡ 45
-    → Within 254 (differing number expected found)
+-- a line is no longer than what it stands in front of
+line-within : (bytes : List ℕ) → length bytes ≡ 47 → Within 47 (lineOf bytes)
+line-within bytes long = simp length-take (omega (arith, long))
+
+differing-within : (number : ℕ) (expected found : List ℕ) → length expected ≡ 47 → length found ≡ 47
+    → Within 258 (differing number expected found)
 unfolding differing
 differing-within number expected found a b =
-    by-test (Within 254) (eqb number 0) (λ _. omega arith)
-    (λ _. simp length-append (omega (arith, about-within number differsWords (omega arith))))
+    by-test (Within 258) (eqb number 0) (λ _. omega arith)
+    (λ _. simp length-append
+    (omega (arith, about-within number differsWords (omega arith), line-within expected a, line-within found b)))
 
 broken-within : (holds : Bool) (number : ℕ) (words : List ℕ) → Within 120 words → Within 153 (broken holds number words)
 unfolding broken
@@ -112,7 +118,7 @@ ending-within end number =
     (λ _. by-test (Within 153) (eqb end unreadable) (λ _. about-within number unreadableWords (omega arith))
     (λ _. by-test (Within 153) (eqb end refused) (λ _. about-within number refusedWords (omega arith)) (λ _. omega arith))))
 
-module _ (j : Judge) (a : length (j .expected) ≡ 45) (b : length (j .found) ≡ 45) where
+module _ (j : Judge) (a : length (j .expected) ≡ 47) (b : length (j .found) ≡ 47) where
   pub said-within : Within pageSize (said j)
   unfolding said
   said-within =

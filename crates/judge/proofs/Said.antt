@@ -6,6 +6,7 @@ use mathlib.Core.List.{List, [], _++_}
 use borrow.Author.Tests.{ne-eqb}
 use Rattle.text.specs.Text.{text}
 use Rattle.onlooker.specs.declared.past.Rules.{Rules}
+use Rattle.judge.specs.NextLine.{lineOf}
 use Rattle.judge.specs.Judged.{missing, leftOver, unreadable, refused}
 use Rattle.judge.specs.Sentences.{sameWords, differsWords, foundWords, keptWords, gatesWords, exitWords, retriesWords}
 use Rattle.judge.specs.Sentences.{missingWords, leftOverWords, unreadableWords, refusedWords}
@@ -19,7 +20,7 @@ module _ (n : ℕ) where
 
   pub other-line : (expected found : List ℕ) → (n ≡ 0 → ⊥)
       → differing n expected found
-      ≡ about n differsWords ++ expected ++ foundWords ++ found
+      ≡ about n differsWords ++ lineOf expected ++ foundWords ++ lineOf found
   unfolding differing
   other-line expected found some = rw (ne-eqb n 0 some)
 

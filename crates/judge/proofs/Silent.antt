@@ -3,7 +3,7 @@ use Prim.Native.Nat.{ℕ, suc, _≤_}
 use native.Mathlib.Omega.{arith}
 use mathlib.Core.Path.{_≡_, refl, ap, sym, subst, _∙_}
 use mathlib.Core.Bool.{Bool, true, false, not, _&&_, cond}
-use mathlib.Core.List.{List, [], _∷_, append-nil}
+use mathlib.Core.List.{List, [], _∷_}
 use lib.Dec.{T, eqb}
 use lib.ListN.{length}
 use borrow.Author.Tests.{eqb-false}
@@ -12,8 +12,7 @@ use Rattle.drive.specs.AnyCall.{Call, reply}
 use Rattle.drive.specs.declared.Drive.{Drive}
 use Rattle.drive.specs.declared.answer.Answer.{Answer}
 use Rattle.drive.specs.declared.answer.Reply.{Reply}
-use Rattle.report.specs.Line.{line}
-use Rattle.records.proofs.Printed.{reply-printed}
+use Rattle.lines.specs.Earlier.{lineLike}
 use Rattle.lines.specs.Shown.{sameBytes, shownBy}
 use Rattle.lines.proofs.LineOf.{same-equal}
 use Rattle.theorems_history.specs.Log.{Entry}
@@ -25,9 +24,10 @@ use Rattle.onlooker.specs.Hears.{hears}
 use Rattle.onlooker.specs.Tells.{heardOf}
 use Rattle.onlooker.specs.declared.Onlooker.{Onlooker}
 use Rattle.onlooker.proofs.Follows.{tells}
-use Rattle.judge.specs.Judged.{going, answerOf, kept, lineFor, differsNow, breaksNow, entryWith, numberOf}
+use Rattle.judge.specs.Judged.{going, answerOf, kept, lineFor, lineKept, differsNow, breaksNow, entryWith, numberOf}
 use Rattle.judge.specs.Printed.{Printed, judgeAll, boardLog, Readable, driveAfter, Supervised}
 use Rattle.judge.specs.declared.Judge.{Judge}
+use Rattle.judge.proofs.Forms.{same-found}
 
 -- a first one that is still not named was not named before, and what would name it does not hold
 unnamed : (good : Bool) (before number : ℕ) (right : Bool) → T good → (number ≡ 0 → ⊥)
@@ -55,9 +55,10 @@ module _ (j : Judge) (said : Reply) (heard : Onlooker) (good : Bool) (end : ℕ)
   entry-heard read = by-test (λ (o : Onlooker). o ≡ heard) good (λ _. refl) (λ fails. never good fails read)
 
   entry-differs : T good → entryWith j said heard good end line .differs ≡ 0
-      → (j .differs ≡ 0) × T (sameBytes (lineFor (said .answer)) line)
+      → (j .differs ≡ 0) × T (sameBytes (lineFor (length line) (said .answer)) (lineKept line))
   unfolding entryWith differsNow
-  entry-differs read none = unnamed good (j .differs) (numberOf j) (sameBytes (lineFor (said .answer)) line) read (numbered j) none
+  entry-differs read none =
+      unnamed good (j .differs) (numberOf j) (sameBytes (lineFor (length line) (said .answer)) (lineKept line)) read (numbered j) none
 
   entry-breaks : T good → entryWith j said heard good end line .breaks ≡ 0 → (j .breaks ≡ 0) × T (kept (heard .rules))
   unfolding entryWith breaksNow
@@ -81,11 +82,6 @@ drive-is (p ∷ before) =
     entry-drive (judgeAll before) (said p before) (hearing p before) (read p before) going (p .line)
     ∙ ap (λ (d : Drive). reply d (p .call) .drive) (drive-is before)
 
--- the supervisor's line, where the line call is lent zeros
-pub line-for : (d : Drive) (call : Call) → lineFor (reply d call .answer) ≡ line (reply d call .answer)
-unfolding lineFor
-line-for d call = rw (reply-printed d call 45 refl (omega arith), append-nil)
-
 pub no-line-differs : (ps : List Printed) → Readable ps → judgeAll ps .differs ≡ 0 → Supervised ps
 unfolding judgeAll Readable Supervised
 no-line-differs [] readable none = tt
@@ -94,9 +90,9 @@ no-line-differs (p ∷ before) readable none =
     let (earlier, same) =
     entry-differs (judgeAll before) (said p before) (hearing p before) (read p before) going (p .line) (readable .0) none
     in (
-      sym (same-equal (lineFor (said p before .answer)) (p .line) same)
-          ∙ line-for d (p .call)
-          ∙ ap (λ (d : Drive). line (reply d (p .call) .answer)) (drive-is before),
+      same-found d (p .call) (p .line) (readable .0)
+          (same-equal (lineFor (length (p .line)) (said p before .answer)) (lineKept (p .line)) same)
+          ∙ ap (λ (d : Drive). lineLike (length (p .line)) (reply d (p .call) .answer)) (drive-is before),
       no-line-differs before (readable .1) earlier,
     )
 

@@ -2,19 +2,22 @@
 -- the log that breaks demand 3, or says that neither exists".
 use Prim.Native.Nat.{ℕ}
 use mathlib.Core.Bool.{Bool, true, not, _&&_, cond}
-use mathlib.Core.List.{List}
+use mathlib.Core.List.{List, [], _∷_, _++_}
 use lib.Dec.{eqb}
 use lib.IntN.{pos}
 use lib.ListN.{length, replicate}
 use Rattle.numbers.specs.Count.{up}
+use Rattle.text.specs.Text.{text}
 use Rattle.text.specs.Put.{written}
 use Rattle.drive.specs.Answer.{reply as shown}
 use Rattle.drive.specs.AnyCall.{Call, reply}
 use Rattle.drive.specs.Calls.{powerUp}
 use Rattle.drive.specs.declared.answer.Answer.{Answer}
+use Rattle.drive.specs.declared.answer.Judged.the-variants.{Nothing}
 use Rattle.drive.specs.declared.answer.Reply.{Reply}
 use Rattle.report.specs.Refusals.{lineLength}
 use Rattle.report.specs.Line.{lentAfter}
+use Rattle.lines.specs.Earlier.{earlierLength, fieldsLength}
 use Rattle.lines.specs.Shown.{sameBytes, shownBy}
 use Rattle.lines.specs.declared.Shown.{Shown}
 use Rattle.onlooker.specs.Past.{most}
@@ -74,6 +77,7 @@ answerOf line =
       angle = pos 0;
       offsets = record { first = 0; second = 0 };
       retries = 0;
+      judged = Nothing;
     }
 
 -- the number of the record that comes next
@@ -84,16 +88,21 @@ numberOf j = up most (j .onlooker .past .heard)
 abbrev pub kept : Rules → Bool
 kept rules = rules .gates && rules .exit && rules .retries
 
--- the line that the supervisor's answer has, and the board's, as far as a line is long
-unfoldable pub lineFor : Answer → List ℕ
-lineFor answer = lentAfter answer blank
+-- 02, M-105: "the report line gains a space and one letter .. before the line feed": without them, as an earlier board prints it; zeros take
+-- their place
+unfoldable pub shortened : List ℕ → List ℕ
+shortened line = written fieldsLength (text "\n" ++ (0 ∷ 0 ∷ [])) line
+
+-- the line that the supervisor's answer has, in the form of a line of so many bytes, and the board's, as far as a line is long
+unfoldable pub lineFor : ℕ → Answer → List ℕ
+lineFor size answer = cond (eqb size earlierLength) (shortened (lentAfter answer blank)) (lentAfter answer blank)
 
 unfoldable pub lineKept : List ℕ → List ℕ
 lineKept line = written 0 line blank
 
 -- the first line that differs, the first entry that breaks the demand: only where none came before, and only of a line that can be read
 unfoldable pub differsNow : ℕ → Bool → List ℕ → List ℕ → Bool
-differsNow before good expected line = good && eqb before 0 && not (sameBytes expected line)
+differsNow before good expected found = good && eqb before 0 && not (sameBytes expected found)
 
 unfoldable pub breaksNow : ℕ → Bool → Rules → Bool
 breaksNow before good rules = good && eqb before 0 && not (kept rules)
@@ -102,13 +111,14 @@ breaksNow before good rules = good && eqb before 0 && not (kept rules)
 -- board answered is not known, and without it nobody can follow the log.
 unfoldable pub entryWith : Judge → Reply → Onlooker → Bool → ℕ → List ℕ → Judge
 entryWith j said heard good end line =
-    let differs : Bool = differsNow (j .differs) good (lineFor (said .answer)) line in
+    let expected : List ℕ = lineFor (length line) (said .answer) in
+    let differs : Bool = differsNow (j .differs) good expected (lineKept line) in
     let breaks : Bool = breaksNow (j .breaks) good (heard .rules) in
     record {
       drive = said .drive;
       onlooker = cond good heard (j .onlooker);
       differs = cond differs (numberOf j) (j .differs);
-      expected = cond differs (lineFor (said .answer)) (j .expected);
+      expected = cond differs expected (j .expected);
       found = cond differs (lineKept line) (j .found);
       breaks = cond breaks (numberOf j) (j .breaks);
       rules = cond breaks (heard .rules) (j .rules);

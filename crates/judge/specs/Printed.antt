@@ -3,12 +3,13 @@ use Prim.Native.Nat.{ℕ}
 use mathlib.Core.List.{List, [], _∷_}
 use mathlib.Core.Path.{_≡_}
 use lib.Dec.{T}
+use lib.ListN.{length}
 use Rattle.drive.specs.AnyCall.{Call, reply}
 use Rattle.drive.specs.Calls.{powerUp}
 use Rattle.drive.specs.declared.Drive.{Drive}
 use Rattle.drive.specs.declared.answer.Answer.{Answer}
 use Rattle.theorems_history.specs.Log.{Entry}
-use Rattle.report.specs.Line.{line}
+use Rattle.lines.specs.Earlier.{lineLike}
 use Rattle.lines.specs.Shown.{shownBy}
 use Rattle.judge.specs.Judged.{nothingJudged, answerOf, judgeCall}
 use Rattle.judge.specs.declared.Judge.{Judge}
@@ -36,7 +37,8 @@ unfoldable pub driveAfter : List Printed → Drive
 driveAfter [] = powerUp
 driveAfter (p ∷ before) = reply (driveAfter before) (p .call) .drive
 
--- every line is the one that the supervisor's answer has
+-- every line is the one that the supervisor's answer has, or would have from an earlier board, by its length
 unfoldable pub Supervised : List Printed → Type 0
 Supervised [] = Unit {0}
-Supervised (p ∷ before) = (p .line ≡ line (reply (driveAfter before) (p .call) .answer)) × Supervised before
+Supervised (p ∷ before) =
+    (p .line ≡ lineLike (length (p .line)) (reply (driveAfter before) (p .call) .answer)) × Supervised before

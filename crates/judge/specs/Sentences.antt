@@ -8,6 +8,7 @@ use lib.ListN.{getD}
 use Rattle.text.specs.Text.{text}
 use Rattle.text.specs.Decimal.{decimal, column}
 use Rattle.onlooker.specs.declared.past.Rules.{Rules}
+use Rattle.judge.specs.NextLine.{lineOf}
 use Rattle.judge.specs.Judged.{missing, leftOver, unreadable, refused, numberOf}
 use Rattle.judge.specs.declared.Judge.{Judge}
 
@@ -72,10 +73,10 @@ about number words = placed number ++ words
 unfoldable pub counting : ℕ → List ℕ
 counting heard = decimal heard ++ callsWords
 
--- the first line that differs
+-- the first line that differs: both as far as their line feed, for an earlier board's are shorter
 unfoldable pub differing : ℕ → List ℕ → List ℕ → List ℕ
 differing number expected found =
-    cond (eqb number 0) sameWords (about number differsWords ++ expected ++ foundWords ++ found)
+    cond (eqb number 0) sameWords (about number differsWords ++ lineOf expected ++ foundWords ++ lineOf found)
 
 -- a rule that does not hold
 unfoldable pub broken : Bool → ℕ → List ℕ → List ℕ

@@ -20,8 +20,11 @@ use crate::picks::pick_u8;
 use crate::picks::pick_u64;
 use check::same;
 use drive::answer::Answer;
+use drive::answer::Judged;
 use drive::answer::Reply;
 use drive::offsets::Pair;
+use lines::EARLIER_LENGTH;
+use lines::FIELDS_LENGTH;
 use lines::Shown;
 use onlooker::Onlooker;
 use onlooker::past::Rules;
@@ -31,7 +34,7 @@ ghost use mathlib.Core.Path.{_≡_};
 ghost use Prim.Native.Nat.{_≤_};
 ghost use lib.ListN.{length, drop};
 ghost use Rattle.records.specs.Front.{front, found as readAs};
-ghost use Rattle.judge.specs.Judged.{answerOf, kept, lineFor, lineKept, differsNow, breaksNow, entryWith, endedBy};
+ghost use Rattle.judge.specs.Judged.{answerOf, kept, shortened, lineFor, lineKept, differsNow, breaksNow, entryWith, endedBy};
 ghost use Rattle.judge.specs.Run.{told, wanting, wantedBy, judgedBy, follow, turn, onward};
 
 // The board's answer, as far as its line shows it to the onlooker; what it does not read is 0.
@@ -52,6 +55,7 @@ fn answer_of(shown: Shown) -> Answer
             second: 0,
         },
         retries: 0,
+        judged: Judged::Nothing,
     }
 }
 
@@ -61,12 +65,23 @@ fn kept(rules: Rules) -> bool
     rules.gates & rules.exit & rules.retries
 }
 
-// The line that the supervisor's answer has.
-fn line_for(answer: Answer) -> [u8; LINE_LENGTH]
-    ensures { λ r. ⌜ r ≡ lineFor answer ⌝ }
+// A line as an earlier board prints it; zeros take the place of what it does not have.
+fn shortened(mut line: [u8; LINE_LENGTH]) -> [u8; LINE_LENGTH]
+    ensures { λ r. ⌜ r ≡ shortened line ⌝ }
+{
+    text::put(&mut line, FIELDS_LENGTH, &[b'\n', 0, 0]);
+    line
+}
+
+// The line that the supervisor's answer has, in the form of a line of so many bytes.
+fn line_for(answer: Answer, size: usize) -> [u8; LINE_LENGTH]
+    ensures { λ r. ⌜ r ≡ lineFor size answer ⌝ }
 {
     let mut line = [0u8; LINE_LENGTH];
     report::line(answer, &mut line);
+    if size == EARLIER_LENGTH {
+        return shortened(line);
+    }
     line
 }
 
@@ -80,10 +95,15 @@ fn line_kept(line: &[u8]) -> [u8; LINE_LENGTH]
 }
 
 // It is the first line that differs.
-fn differs_now(before: u64, good: bool, expected: [u8; LINE_LENGTH], line: &[u8]) -> bool
-    ensures { λ r. ⌜ r ≡ differsNow before good expected (now (line .entry)) ⌝ }
+fn differs_now(
+    before: u64,
+    good: bool,
+    expected: [u8; LINE_LENGTH],
+    found: [u8; LINE_LENGTH],
+) -> bool
+    ensures { λ r. ⌜ r ≡ differsNow before good expected found ⌝ }
 {
-    good & (before == 0) & !same(&expected, line)
+    good & (before == 0) & !same(&expected, &found)
 }
 
 // It is the first entry that breaks the demand.
@@ -101,10 +121,10 @@ fn entry(judge: Judge, reply: Reply, heard: Onlooker, good: bool, end: u8, line:
     let before = judge.onlooker;
     let first_expected = judge.expected;
     let first_found = judge.found;
-    let expected = line_for(reply.answer);
+    let expected = line_for(reply.answer, line.len());
     let found = line_kept(line);
     let number = one_more(before.past.heard);
-    let differs = differs_now(judge.differs, good, expected, line);
+    let differs = differs_now(judge.differs, good, expected, found);
     let breaks = breaks_now(judge.breaks, good, heard.rules);
     let stopped = pick_u8(line.len() == 0, MISSING, UNREADABLE);
     Judge {

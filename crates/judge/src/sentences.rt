@@ -4,6 +4,7 @@ use crate::LEFT_OVER;
 use crate::MISSING;
 use crate::REFUSED;
 use crate::UNREADABLE;
+use crate::fronts::next_line;
 use crate::picks::one_more;
 use crate::words::CALLS_JUDGED;
 use crate::words::EXIT_BREAKS;
@@ -29,6 +30,7 @@ use text::put_decimal;
 ghost use mathlib.Core.Path.{_≡_};
 ghost use Prim.Native.Nat.{_<_};
 ghost use Rattle.text.specs.Put.{behind, written};
+ghost use Rattle.judge.specs.NextLine.{lineOf};
 ghost use Rattle.judge.specs.Pages.{blankPage, more};
 ghost use Rattle.judge.specs.Sentences.{placed, sentence, about, counting, differing, broken, breaking, ending, said};
 
@@ -50,11 +52,14 @@ fn put_placed(lent: &mut [u8], at: usize, number: u64) -> usize
     put(lent, at, b"  ")
 }
 
+// A line, as far as its line feed.
 fn say_line(page: Page, line: [u8; LINE_LENGTH]) -> Page
-    ensures { λ r. ⌜ r ≡ more page line ⌝ }
+    ensures { λ r. ⌜ r ≡ more page (lineOf line) ⌝ }
 {
+    let next = next_line(&line, 0);
+    let end = next.size;
     let mut bytes = page.bytes;
-    let size = put(&mut bytes, page.size, &line);
+    let size = put(&mut bytes, page.size, &line[..end]);
     Page { bytes, size }
 }
 

@@ -8,14 +8,21 @@ use lib.Dec.{T, eqb, ltb, nltb→le}
 use mir.Syntax.{w16}
 use mir.Val.{SFits}
 use Rattle.verdicts.specs.Table.{row, verdict}
+use Rattle.hall.specs.declared.fate.Fate.the-variants.{Dead, First, Same, Forward, Back, Stray}
+use Rattle.drive.specs.Answer.{letter}
 use Rattle.drive.specs.declared.answer.Answer.{Answer}
+use Rattle.drive.specs.declared.answer.Judged.{Judged}
+use Rattle.drive.specs.declared.answer.Judged.the-variants.{Nothing, Sample}
 use Rattle.report.specs.Refusals.{lineLength, accepts}
 use Rattle.report.specs.Line.{name, line}
+use Rattle.lines.specs.Values.{judgedOf}
 use Rattle.lines.specs.Fields.{part, answerIn}
-use Rattle.lines.specs.Shown.{shown, shownBy}
+use Rattle.lines.specs.Earlier.{earlierLine, ofToday}
+use Rattle.lines.specs.Shown.{shown, shownToday, shownBy}
 use Rattle.lines.proofs.Digits.{digits-back, signed-back}
 use Rattle.lines.proofs.Places as places
 use Rattle.lines.proofs.LineOf.{good-where, good-line}
+use Rattle.lines.proofs.Earlier.{line-of-today, untold, earlier-of-today, name-of-today}
 
 -- what an answer of the code keeps to by its types, and so any answer that is handed to the writer
 pub record Fits (answer : Answer) : Type 0 where
@@ -38,7 +45,17 @@ onTheLine answer =
       angle = answer .angle;
       offsets = record { first = 0; second = 0 };
       retries = 0;
+      judged = answer .judged;
     }
+
+letter-back : (judged : Judged) → judgedOf (letter judged) ≡ judged
+letter-back Nothing = refl
+letter-back (Sample First) = refl
+letter-back (Sample Same) = refl
+letter-back (Sample Forward) = refl
+letter-back (Sample Back) = refl
+letter-back (Sample Dead) = refl
+letter-back (Sample Stray) = refl
 
 read-back : (answer : Answer) → answer .number ≤ 15 → answer .state ≤ 9 → answer .gate ≤ 3 → Fits answer
     → answerIn (line answer) ≡ onTheLine answer
@@ -60,6 +77,8 @@ read-back answer number state gate fits =
       places.angle-sign answer,
       places.angle-at answer,
       signed-back (answer .angle) (fits .angle),
+      places.letter-at answer,
+      letter-back (answer .judged),
     )
 
 none-holds : (b c d : Bool) → T (eqb (verdict (row 5 0 false ∷ row 5 1 b ∷ row 5 2 c ∷ row 5 3 d ∷ []) .number) 0)
@@ -69,10 +88,10 @@ none-holds false true d t = absurd t
 none-holds false false true t = absurd t
 none-holds false false false t = (tt, tt, tt)
 
--- Reading gives back what was shown, whatever was: of every answer that has a line.
-pub shown-back : (answer : Answer) → T (accepts answer lineLength) → Fits answer → shownBy (line answer) ≡ shown answer
+-- the answer read off a line of today shows what was shown
+shown-today : (answer : Answer) → T (accepts answer lineLength) → Fits answer → shownToday (line answer) ≡ shown answer
 unfolding line
-shown-back answer accepted fits =
+shown-today answer accepted fits =
     let (number, state, gate) =
     none-holds (ltb 15 (answer .number)) (ltb 9 (answer .state)) (ltb 3 (answer .gate)) accepted
     in
@@ -81,8 +100,29 @@ shown-back answer accepted fits =
     in
     good-where (line answer) (rw back (record { accepted = accepted; written = refl })) ∙ ap shown back
 
+-- Reading gives back what was shown, whatever was: of every answer that has a line.
+pub shown-back : (answer : Answer) → T (accepts answer lineLength) → Fits answer → shownBy (line answer) ≡ shown answer
+shown-back answer accepted fits = rw (line-of-today answer) (shown-today answer accepted fits)
+
+-- The same of the line that an earlier board prints for it.
+pub shown-back-earlier :
+    (answer : Answer)
+    → T (accepts answer lineLength)
+    → Fits answer
+    → shownBy (earlierLine answer) ≡ shown answer
+shown-back-earlier answer accepted fits =
+    rw (earlier-of-today answer) (shown-today (untold answer) accepted (record {
+      live = fits .live;
+      reference = fits .reference;
+      position = fits .position;
+      angle = fits .angle;
+    }))
+
 -- no state is read that the line does not name
 pub name-stands : (bytes : List ℕ) → T (shownBy bytes .good) → part 2 12 bytes ≡ name (shownBy bytes .state)
 name-stands bytes good =
-    let is = good-line bytes good in
-    ap (part 2 12) (sym (is .written)) ∙ places.name-at (answerIn bytes) ∙ rw (good-where bytes is)
+    let is = good-line (ofToday bytes) good in
+    name-of-today bytes
+    ∙ ap (part 2 12) (sym (is .written))
+    ∙ places.name-at (answerIn (ofToday bytes))
+    ∙ rw (good-where (ofToday bytes) is)

@@ -2,6 +2,7 @@
 pub mod Digits
 pub mod LineOf
 pub mod Places
+pub mod Earlier
 pub mod Back
 -- Of the promises themselves.
 pub mod OneReply

@@ -12,7 +12,7 @@ use Rattle.report.specs.Refusals.{lineLength, accepts}
 use Rattle.report.specs.Line.{line}
 use Rattle.report.proofs.Fields.{length-line}
 use Rattle.lines.specs.Fields.{answerIn}
-use Rattle.lines.specs.Shown.{sameBytes, isLineOf, unreadable, shown, shownBy}
+use Rattle.lines.specs.Shown.{sameBytes, isLineOf, unreadable, shown, shownToday}
 use Rattle.lines.specs.declared.Shown.{Shown}
 
 pub same-equal : (a b : List ℕ) → T (sameBytes a b) → a ≡ b
@@ -54,8 +54,8 @@ passes-test answer bytes is =
     yes-and (accepts answer lineLength) (sameBytes (line answer) bytes) (is .accepted) (rw (is .written) (same-self bytes))
 
 module _ (bytes : List ℕ) where
-  pub good-where : LineOf (answerIn bytes) bytes → shownBy bytes ≡ shown (answerIn bytes)
-  unfolding shownBy
+  pub good-where : LineOf (answerIn bytes) bytes → shownToday bytes ≡ shown (answerIn bytes)
+  unfolding shownToday
   good-where is =
       let long : length bytes ≡ lineLength = ap length (sym (is .written)) ∙ length-line (answerIn bytes) in
       by-test (λ (s : Shown). s ≡ shown (answerIn bytes)) (eqb (length bytes) lineLength)
@@ -63,16 +63,16 @@ module _ (bytes : List ℕ) where
       (λ fails. never (isLineOf (answerIn bytes) bytes) fails (passes-test (answerIn bytes) bytes is)))
       (λ fails. never (eqb (length bytes) lineLength) fails (rw long tt))
 
-  pub bad-where : (LineOf (answerIn bytes) bytes → ⊥) → shownBy bytes ≡ unreadable
-  unfolding shownBy
+  pub bad-where : (LineOf (answerIn bytes) bytes → ⊥) → shownToday bytes ≡ unreadable
+  unfolding shownToday
   bad-where none =
       by-test (λ (s : Shown). s ≡ unreadable) (eqb (length bytes) lineLength)
       (λ _. by-test (λ (s : Shown). s ≡ unreadable) (isLineOf (answerIn bytes) bytes)
       (λ t. absurd (none (test-passed (answerIn bytes) bytes t))) (λ _. refl))
       (λ _. refl)
 
-  pub good-line : T (shownBy bytes .good) → LineOf (answerIn bytes) bytes
-  unfolding shownBy
+  pub good-line : T (shownToday bytes .good) → LineOf (answerIn bytes) bytes
+  unfolding shownToday
   good-line =
       by-test (λ (s : Shown). T (s .good) → LineOf (answerIn bytes) bytes) (eqb (length bytes) lineLength)
       (λ _. by-test (λ (s : Shown). T (s .good) → LineOf (answerIn bytes) bytes) (isLineOf (answerIn bytes) bytes)

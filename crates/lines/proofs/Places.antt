@@ -3,13 +3,14 @@ use Prim.Native.Nat.{ℕ, suc, _+_, _≤_, _<_}
 use native.Mathlib.Omega.{arith}
 use mathlib.Core.Path.{_≡_, ap, _∙_}
 use mathlib.Core.Bool.{Bool}
-use mathlib.Core.List.{List, _++_, append-assoc}
+use mathlib.Core.List.{List, [], _∷_, _++_, append-assoc}
 use Prim.Native.String.{String}
 use lib.Dec.{eqb, eqb→eq}
 use lib.IntN.{natAbs}
 use lib.ListN.{getD, take, drop, List·getD-append}
 use lib.Seq.{drop-append-add, getD-append-add, take-at}
 use Rattle.numbers.proofs.Table.{at}
+use Rattle.drive.specs.Answer.{letter}
 use Rattle.drive.specs.declared.answer.Answer.{Answer}
 use Rattle.text.specs.Text.{text}
 use Rattle.report.specs.Text.{padded, sign, digits, signed}
@@ -50,12 +51,14 @@ behind answer =
     ++ digits 16 8 (answer .position)
     ++ text " "
     ++ signed (answer .angle)
+    ++ text " "
+    ++ (letter (answer .judged) ∷ [])
     ++ text "\n"
 
-regroup : (a b c d e f g h i j k l m n : List ℕ)
-    → a ++ b ++ c ++ d ++ e ++ f ++ g ++ h ++ i ++ j ++ k ++ l ++ m ++ n
-    ≡ a ++ (b ++ (c ++ (d ++ e ++ f ++ g ++ h ++ i ++ j ++ k ++ l ++ m ++ n)))
-regroup a b c d e f g h i j k l m n = simp append-assoc
+regroup : (a b c d e f g h i j k l m n o p : List ℕ)
+    → a ++ b ++ c ++ d ++ e ++ f ++ g ++ h ++ i ++ j ++ k ++ l ++ m ++ n ++ o ++ p
+    ≡ a ++ (b ++ (c ++ (d ++ e ++ f ++ g ++ h ++ i ++ j ++ k ++ l ++ m ++ n ++ o ++ p)))
+regroup a b c d e f g h i j k l m n o p = simp append-assoc
 
 module _ (answer : Answer) where
   around-name : line answer ≡ digits 16 1 (answer .number) ++ (text " " ++ (name (answer .state) ++ behind answer))
@@ -63,7 +66,7 @@ module _ (answer : Answer) where
   around-name =
       regroup (digits 16 1 (answer .number)) (text " ") (name (answer .state)) (text " ") (digits 10 1 (answer .gate)) (text " ")
       (digits 16 4 (answer .live)) (text " ") (signed (answer .reference)) (text " ") (digits 16 8 (answer .position)) (text " ")
-      (signed (answer .angle)) (text "\n")
+      (signed (answer .angle)) (text " ") (letter (answer .judged) ∷ []) (text "\n")
 
   -- a place behind the name, of the line and of what stands there
   from : (k : ℕ) → drop (suc (suc (12 + k))) (line answer) ≡ drop k (behind answer)
@@ -112,3 +115,7 @@ module _ (answer : Answer) where
   pub angle-at : part 39 5 (line answer) ≡ digits 10 5 (natAbs (answer .angle))
   unfolding digits signed
   angle-at = ap (take 5) (from 25)
+
+  pub letter-at : byte 45 (line answer) ≡ letter (answer .judged)
+  unfolding digits signed
+  letter-at = ap (byte 45) around-name ∙ byte-behind (answer .state) 31 (behind answer)

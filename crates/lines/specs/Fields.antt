@@ -1,10 +1,10 @@
--- Document 01, "Report line and program": where each field stands in the line, and the answer that they show.
+-- Document 01, "Report line and program", and 02, M-105: where each field stands in the line, and the answer that they show.
 use Prim.Native.Nat.{ℕ}
 use mathlib.Core.List.{List}
 use lib.IntN.{ℤ}
 use lib.ListN.{getD, take, drop}
 use Rattle.drive.specs.declared.answer.Answer.{Answer}
-use Rattle.lines.specs.Values.{value, signedOf, stateOf}
+use Rattle.lines.specs.Values.{value, signedOf, stateOf, judgedOf}
 
 -- so many bytes from a place on
 abbrev pub part : ℕ → ℕ → List ℕ → List ℕ
@@ -18,7 +18,8 @@ abbrev pub signedAt : ℕ → ℕ → List ℕ → ℤ
 signedAt sign digits bytes = signedOf (byte sign bytes) (value 10 (part digits 5 bytes))
 
 -- "number, one hex digit; space; name of the state, .. twelve; space; gate; space; live word, 4 hex; space; speed reference, sign and
--- 5 digits; space; position, 8 hex; space; angle, sign and 5 digits; line feed". What no line shows is 0.
+-- 5 digits; space; position, 8 hex; space; angle, sign and 5 digits; line feed"; 02, M-105: ".. a space and one letter .. before the line
+-- feed". What no line shows is 0.
 unfoldable pub answerIn : List ℕ → Answer
 answerIn bytes =
     record {
@@ -32,4 +33,5 @@ answerIn bytes =
       angle = signedAt 38 39 bytes;
       offsets = record { first = 0; second = 0 };
       retries = 0;
+      judged = judgedOf (byte 45 bytes);
     }

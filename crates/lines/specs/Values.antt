@@ -8,6 +8,9 @@ use lib.Dec.{eqb, ltb}
 use lib.IntN.{ℤ}
 use mir.Syntax.{w16}
 use mir.Val.{toZ}
+use Rattle.hall.specs.declared.fate.Fate.the-variants.{Dead, First, Same, Forward, Back, Stray}
+use Rattle.drive.specs.declared.answer.Judged.{Judged}
+use Rattle.drive.specs.declared.answer.Judged.the-variants.{Nothing, Sample}
 
 -- a digit has its value in the low four bits of its byte, the letters A to F nine less
 abbrev pub valueOf : ℕ → ℕ
@@ -34,3 +37,12 @@ stateOf first second =
     (cond (eqb first (code "B")) 3
     (cond (eqb first (code "M")) 4
     (cond (eqb first (code "F")) 5 (cond (eqb first (code "C")) 6 (cond (eqb first (code "P")) 7 9)))))))
+
+-- 02, M-105: "one letter (F, S, W, B, D, X, or a full stop otherwise)": any byte that is none of the six tells of no sample
+abbrev pub judgedOf : ℕ → Judged
+judgedOf letter =
+    cond (eqb letter (code "F")) (Sample First)
+    (cond (eqb letter (code "S")) (Sample Same)
+    (cond (eqb letter (code "W")) (Sample Forward)
+    (cond (eqb letter (code "B")) (Sample Back)
+    (cond (eqb letter (code "D")) (Sample Dead) (cond (eqb letter (code "X")) (Sample Stray) Nothing)))))

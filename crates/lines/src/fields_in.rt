@@ -1,4 +1,5 @@
 // The fields of a line, read off their places.
+use crate::values::judged_of;
 use crate::values::signed_of;
 use crate::values::state_of;
 use crate::values::value;
@@ -28,5 +29,6 @@ pub(crate) fn answer_in(line: &[u8]) -> Answer
             second: 0,
         },
         retries: 0,
+        judged: judged_of(line[45]),
     }
 }

@@ -1,10 +1,12 @@
 // The value of a text: the other way round than the writers of `report`.
+use drive::answer::Judged;
+use hall::fate::Fate;
 use numbers::signed;
 ghost use mathlib.Core.Path.{_≡_};
 ghost use mathlib.Core.Bool.{cond};
 ghost use Prim.Native.Nat.{_+_, _^_, _≤_, _<_};
 ghost use lib.ListN.{length};
-ghost use Rattle.lines.specs.Values.{valueOf, value, signedOf, stateOf};
+ghost use Rattle.lines.specs.Values.{valueOf, value, signedOf, stateOf, judgedOf};
 ghost use Rattle.lines.specs.Fields.{part};
 
 fn digit(byte: u8) -> u32
@@ -62,4 +64,18 @@ pub(crate) fn state_of(first: u8, second: u8) -> u8
         pick(first == b'B', 3, from_m),
     );
     pick(first == b'I', 0, pick(first == b'S', 1, from_o))
+}
+
+pub(crate) fn judged_of(letter: u8) -> Judged
+    ensures { λ r. ⌜ r ≡ judgedOf letter ⌝ }
+{
+    match letter {
+        b'F' => Judged::Sample(Fate::First),
+        b'S' => Judged::Sample(Fate::Same),
+        b'W' => Judged::Sample(Fate::Forward),
+        b'B' => Judged::Sample(Fate::Back),
+        b'D' => Judged::Sample(Fate::Dead),
+        b'X' => Judged::Sample(Fate::Stray),
+        _ => Judged::Nothing,
+    }
 }

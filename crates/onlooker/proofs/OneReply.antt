@@ -23,3 +23,9 @@ witness-cycle κs given r s p q = same (p ∙⁻¹ q) refl
 
 pub witness-tick : OneReply promises.witness.Heard.tick.ended promises.witness.Heard.tick.Reads.Post
 witness-tick κs given r s p q = same (p ∙⁻¹ q) refl
+
+pub plug-new : OneReply promises.plug.Plug.new.ended promises.plug.Plug.new.Reads.Post
+plug-new κs given r s p q = same (p ∙⁻¹ q) refl
+
+pub plug-hear : OneReply promises.plug.Plug.hear.ended promises.plug.Plug.hear.Reads.Post
+plug-hear κs given r s p q = same (p ∙⁻¹ q) refl

@@ -1,6 +1,7 @@
 // The onlooker of demand 3 as code: he takes each call with its answer and says what happened and, at a start, by what.
 mod notes;
 pub mod past;
+pub mod plug;
 pub mod scene;
 pub mod witness;
 mod words;

@@ -86,7 +86,7 @@ pub(crate) fn pick_bool(test: bool, yes: bool, no: bool) -> bool
 }
 
 // One more, and at most what 64 bits hold.
-fn one_more(count: u64) -> u64
+pub(crate) fn one_more(count: u64) -> u64
     ensures { λ r. ⌜ r ≡ up most count ⌝ }
 {
     if count < u64::MAX { count + 1 } else { count }

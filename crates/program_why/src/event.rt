@@ -2,6 +2,7 @@
 use crate::words::NO_RECORD;
 use crate::words::NOTHING;
 use onlooker::past::Seen;
+use onlooker::plug::Plug;
 use onlooker::witness::Heard;
 use records::CYCLE_SIZE;
 use records::Found;
@@ -20,7 +21,8 @@ const TICK: u8 = 3;
 // The record's number; which call it asked for, the bytes that it has, and number and place of the answer; the states that the answers
 // showed before it and after it, and whether the one before ran; the note; mode 1, two sensors before it and after it, and the loaded
 // limit; the records of the low and of the retry that permit a start, whether one was permitted, the retries counted; the last low and
-// the last trip before it; the record that lit the live word, and whether dead samples lit bit 15; live word and gates, before and after.
+// the last trip before it; the record that lit the live word, and whether dead samples lit bit 15; live word and gates, before and after; a
+// cycle's pattern, and what the answers tell of the plug, before and after.
 pub(crate) struct Event {
     pub(crate) nth: u64,
     pub(crate) kind: u8,
@@ -47,10 +49,17 @@ pub(crate) struct Event {
     pub(crate) live: u16,
     pub(crate) old_gate: u8,
     pub(crate) gate: u8,
+    pub(crate) pattern: u64,
+    pub(crate) old_plug: Plug,
+    pub(crate) plug: Plug,
 }
 
 fn wide(number: u16) -> u64 {
     number as u64
+}
+
+fn told(pattern: u8) -> u64 {
+    pattern as u64
 }
 
 // Which call a record asks for; NO_RECORD for what is none, and NOTHING where more may come or there is no more.
@@ -75,8 +84,31 @@ fn size_of(found: Found) -> usize {
     }
 }
 
+// A cycle's pattern.
+fn pattern_of(found: Found) -> u8 {
+    match found {
+        Found::Cycle(fields) => fields.pattern,
+        _ => 0,
+    }
+}
+
+// What the answers tell of the plug, with the call that a record asks for; without one nothing more is heard.
+pub(crate) fn plugged(before: Plug, after: Heard, found: Found) -> Plug {
+    if size_of(found) == 0 {
+        return before;
+    }
+    before.hear(after.onlooker.seen.loaded, pattern_of(found), after.answer)
+}
+
 // What was heard before and what is heard now are the same where no call was made.
-pub(crate) fn happened(before: Heard, after: Heard, found: Found, closed: bool) -> Event {
+pub(crate) fn happened(
+    before: Heard,
+    after: Heard,
+    found: Found,
+    closed: bool,
+    old_plug: Plug,
+    plug: Plug,
+) -> Event {
     let past = before.onlooker.past;
     let old = before.onlooker.memory.numbers;
     let memory = after.onlooker.memory;
@@ -108,5 +140,8 @@ pub(crate) fn happened(before: Heard, after: Heard, found: Found, closed: bool) 
         live: after.onlooker.scene.live,
         old_gate: before.onlooker.scene.gate,
         gate: after.onlooker.scene.gate,
+        pattern: told(pattern_of(found)),
+        old_plug,
+        plug,
     }
 }

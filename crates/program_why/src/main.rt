@@ -5,14 +5,17 @@ mod happened;
 mod hear;
 mod places;
 mod record;
+mod samples;
 mod sentence;
 mod shown;
 mod words;
 mod writer;
 
 use event::happened;
+use event::plugged;
 use hear::hear;
 use hear::silence;
+use onlooker::plug::Plug;
 use places::BEGUN;
 use record::found_at;
 use record::turn;
@@ -24,13 +27,16 @@ use records::OUTPUT_SIZE;
 fn serve(input: &mut [u8], output: &mut [u8]) {
     let mut turns = u64::MAX;
     let mut heard = silence();
+    let mut plug = Plug::new();
     let mut places = BEGUN;
     while 0 < turns && !places.ended {
         let found = found_at(input, places);
         let after = hear(heard, found, input, places.taken);
-        let e = happened(heard, after, found, places.closed);
+        let told = plugged(plug, after, found);
+        let e = happened(heard, after, found, places.closed, plug, told);
         places = turn(e, places, input, output);
         heard = after;
+        plug = told;
         turns -= 1;
     }
 }

@@ -7,7 +7,7 @@ use crate::words::put_line;
 use crate::words::put_word;
 use text::put;
 
-// The row that says it and the row's numbers; the word behind it, or the bits of a live word with what lit bit 15.
+// The row that says it and the row's numbers; the word behind it, or the bits of a live word with what lit bit 15, and by which pattern.
 pub(crate) struct Sentence {
     pub(crate) row: u8,
     pub(crate) first: u64,
@@ -15,6 +15,7 @@ pub(crate) struct Sentence {
     pub(crate) word: u8,
     pub(crate) live: u16,
     pub(crate) dead: bool,
+    pub(crate) pattern: u8,
 }
 
 pub(crate) fn plain(row: u8) -> Sentence {
@@ -33,10 +34,11 @@ pub(crate) fn worded(row: u8, first: u64, second: u64, word: u8) -> Sentence {
         word,
         live: 0,
         dead: false,
+        pattern: 0,
     }
 }
 
-pub(crate) fn lit(row: u8, first: u64, live: u16, dead: bool) -> Sentence {
+pub(crate) fn lit(row: u8, first: u64, live: u16, dead: bool, pattern: u8) -> Sentence {
     Sentence {
         row,
         first,
@@ -44,28 +46,36 @@ pub(crate) fn lit(row: u8, first: u64, live: u16, dead: bool) -> Sentence {
         word: NO_WORD,
         live,
         dead,
+        pattern,
     }
 }
 
 // The lowest bit of what is left of a live word, where it is set.
-fn put_lowest(output: &mut [u8], at: usize, rest: u16, number: u8, dead: bool) -> usize {
+fn put_lowest(
+    output: &mut [u8],
+    at: usize,
+    rest: u16,
+    number: u8,
+    dead: bool,
+    pattern: u8,
+) -> usize {
     if rest % 2 == 0 {
         return at;
     }
-    let next = put_word(output, at, bit_word(number, dead));
+    let next = put_word(output, at, bit_word(number, dead), pattern);
     if rest == 1 {
         return next;
     }
-    put_word(output, next, COMMA)
+    put_word(output, next, COMMA, 0)
 }
 
 // The bits of a live word, the lowest first.
-fn put_bits(output: &mut [u8], at: usize, live: u16, dead: bool) -> usize {
+fn put_bits(output: &mut [u8], at: usize, live: u16, dead: bool, pattern: u8) -> usize {
     let mut next = at;
     let mut rest = live;
     let mut number: u8 = 0;
     while number < 16 {
-        next = put_lowest(output, next, rest, number, dead);
+        next = put_lowest(output, next, rest, number, dead, pattern);
         rest /= 2;
         number += 1;
     }
@@ -77,7 +87,7 @@ pub(crate) fn put_sentence(output: &mut [u8], at: usize, nth: u64, s: Sentence) 
         return at;
     }
     let mut next = put_line(output, at, s.row, nth, s.first, s.second);
-    next = put_word(output, next, s.word);
-    next = put_bits(output, next, s.live, s.dead);
+    next = put_word(output, next, s.word, 0);
+    next = put_bits(output, next, s.live, s.dead, s.pattern);
     put(output, next, b"\n")
 }

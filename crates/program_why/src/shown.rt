@@ -27,12 +27,18 @@ pub(crate) fn trip(e: Event) -> Sentence {
         return plain(NOTHING);
     }
     if by_earlier(e) {
-        return lit(TRIPPED_BY_EARLIER, e.lit, e.old_live, e.dead);
+        return lit(
+            TRIPPED_BY_EARLIER,
+            e.lit,
+            e.old_live,
+            e.dead,
+            e.plug.pattern,
+        );
     }
     if e.live == 0 {
         return plain(TRIPPED_IN_THE_DARK);
     }
-    lit(TRIPPED, 0, e.live, e.dead)
+    lit(TRIPPED, 0, e.live, e.dead, e.plug.pattern)
 }
 
 // The live word shows something new that the sentence of a trip does not tell.
@@ -42,7 +48,7 @@ fn lights(e: Event) -> bool {
 
 pub(crate) fn live(e: Event) -> Sentence {
     if lights(e) {
-        return lit(LIVE, 0, e.live, e.dead);
+        return lit(LIVE, 0, e.live, e.dead, e.plug.pattern);
     }
     plain(NOTHING)
 }

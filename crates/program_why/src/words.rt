@@ -6,7 +6,7 @@ ghost use Prim.Native.Nat.{_+_, _≤_};
 // The sentences. `@` stands for the record's number, `#` and `$` for the numbers that a sentence tells; behind a colon at the end comes
 // a word, or the bits of a live word. The rows of the refusals have the calls' numbers, and an exit's row has behind it the one that says
 // that a live cause stood.
-const SENTENCES: [u8; 1326] = *b"
+const SENTENCES: [u8; 1462] = *b"
 record @  load refused: number #, place $:
 record @  cycle refused: number #, place $:
 record @  tick refused: number #, place $:
@@ -35,6 +35,9 @@ record @  trip by record #:
 record @  trip: no live bit is shown
 record @  live:
 record @  gates:
+record @  dead Hall sample #: pattern $
+record @  stray Hall sample #: pattern $
+record @  Hall samples since the load: # dead, $ stray
 ";
 
 pub(crate) const NOTHING: u8 = 0;
@@ -83,6 +86,12 @@ pub(crate) const LIVE: u8 = 27;
 
 pub(crate) const GATES: u8 = 28;
 
+pub(crate) const DEAD_SAMPLE: u8 = 29;
+
+pub(crate) const STRAY_SAMPLE: u8 = 30;
+
+pub(crate) const SAMPLES: u8 = 31;
+
 pub(crate) fn put_line(
     output: &mut [u8],
     at: usize,
@@ -95,9 +104,9 @@ pub(crate) fn put_line(
 }
 
 // What may stand behind a sentence, each with its blank in front: what a field of a tick and of a cycle may be, by its place from 1, and
-// the pattern of two sensors; the bits of the live word, bit 15 once more; what the gates do; what a setting may be, by its place, and
+// the pattern of two sensors; the bits of the live word, bit 15 once more, each time with the last pattern; what the gates do; what a setting may be, by its place, and
 // place 0 is all of them; the refusals that have no place; what the papers have no words for; and what stands between two bits.
-const WORDS: [u8; 1908] = *b"
+const WORDS: [u8; 1940] = *b"
  no field
  gate_kill is 0..1
  clear is 0..1
@@ -130,8 +139,8 @@ const WORDS: [u8; 1908] = *b"
  a bit without a meaning (bit 12)
  a bit without a meaning (bit 13)
  no new Hall pattern for HallTimeoutPeriod (bit 14)
- two dead Hall samples (bit 15)
- three stray Hall samples (bit 15)
+ two dead Hall samples, last pattern # (bit 15)
+ three stray Hall samples, last pattern # (bit 15)
  off
  charge
  drive
@@ -231,6 +240,7 @@ pub(crate) fn field_word(kind: u8, place: u8, two_sensors: bool) -> u8 {
     row_of(TICK_FIELDS, place, 12)
 }
 
-pub(crate) fn put_word(output: &mut [u8], at: usize, row: u8) -> usize {
-    put_row(output, at, &WORDS, row, 0, 0, 0)
+// `number` is the pattern that a word may tell.
+pub(crate) fn put_word(output: &mut [u8], at: usize, row: u8, number: u8) -> usize {
+    put_row(output, at, &WORDS, row, 0, number as u64, 0)
 }

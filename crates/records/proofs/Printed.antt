@@ -12,15 +12,17 @@ use Rattle.numbers.proofs.Tests.{by-test}
 use Rattle.states.proofs.Every.{every}
 use Rattle.states.specs.States.{numberOf}
 use Rattle.drive.specs.AnyCall.{Call, loads, cycles, ticks, blockLoads, reply as replyTo}
-use Rattle.drive.specs.Answer.{gateOf, gate, liveWord, answer}
+use Rattle.drive.specs.Answer.{gateOf, gate, liveWord, answerTelling}
 use Rattle.verdicts.specs.Table.{Row, told, verdict}
 use Rattle.settings.specs.Rules.{settingRows}
 use Rattle.drive.specs.Refusals.{loadRows, cycleRows, tickRows}
 use Rattle.drive.specs.Blocks.{blockRows, leftByBlock, blockLoad}
-use Rattle.drive.specs.Calls.{settle, load, cycle, cycled}
+use Rattle.drive.specs.Calls.{settleTelling, load, judgedBy, cycle, cycled}
 use Rattle.drive.specs.Ticks.{tick, ticked}
-use Rattle.drive.proofs.Settles.{settles}
+use Rattle.drive.proofs.Settles.{settles-telling}
 use Rattle.drive.specs.declared.Drive.{Drive}
+use Rattle.drive.specs.declared.answer.Judged.{Judged}
+use Rattle.drive.specs.declared.answer.Judged.the-variants.{Nothing}
 use Rattle.drive.specs.declared.answer.Reply.{Reply}
 use Rattle.states.specs.declared.State.{State}
 use Rattle.verdicts.specs.declared.Verdict.{Verdict}
@@ -37,11 +39,11 @@ gate-small s live =
     (λ _. by-test (λ n. n ≤ 3) (any live) (λ _. omega arith)
     (λ _. leb→le (gateOf s) 3 (every (λ s. leb (gateOf s) 3) tt s))))
 
-pub answer-printed : (number place : ℕ) (d : Drive) (lent : ℕ) → number ≤ 15 → lineLength ≤ lent
-    → accepts (answer number place d) lent ≡ true
-unfolding answer
-answer-printed number place d lent small room =
-    accepted (answer number place d) lent room small (state-small (d .state)) (gate-small (d .state) (liveWord d))
+pub answer-printed : (judged : Judged) (number place : ℕ) (d : Drive) (lent : ℕ) → number ≤ 15 → lineLength ≤ lent
+    → accepts (answerTelling judged number place d) lent ≡ true
+unfolding answerTelling
+answer-printed judged number place d lent small room =
+    accepted (answerTelling judged number place d) lent room small (state-small (d .state)) (gate-small (d .state) (liveWord d))
 
 -- each row's number is small
 small : List Row → Bool
@@ -60,23 +62,25 @@ verdict-small (r ∷ rows) all = go (r .holds) (verdict-small rows (parts .1))
     go true later = leb→le (r .number) 15 (parts .0)
     go false later = later
 
-settle-printed : (v : Verdict) (next d : Drive) (lent : ℕ) → v .number ≤ 15 → lineLength ≤ lent
-    → accepts (settle v next d .answer) lent ≡ true
-settle-printed v next d lent number room =
-    settles (λ (r : Reply). accepts (r .answer) lent ≡ true) v next d
-    (λ none. answer-printed 0 0 next lent (omega arith) room)
-    (λ given. answer-printed (v .number) (v .place) d lent number room)
+settle-printed : (judged : Judged) (v : Verdict) (next d : Drive) (lent : ℕ) → v .number ≤ 15 → lineLength ≤ lent
+    → accepts (settleTelling judged v next d .answer) lent ≡ true
+settle-printed judged v next d lent number room =
+    settles-telling (λ (r : Reply). accepts (r .answer) lent ≡ true) judged v next d
+    (λ none. answer-printed judged 0 0 next lent (omega arith) room)
+    (λ given. answer-printed Nothing (v .number) (v .place) d lent number room)
 
 pub reply-printed : (d : Drive) (r : Call) (lent : ℕ) {said : Reply} → said ≡ replyTo d r → lineLength ≤ lent
     → accepts (said .answer) lent ≡ true
 unfolding load cycle tick blockLoad small settingRows
 reply-printed d (loads numbers) lent same room =
-    rw same (settle-printed (verdict (loadRows d numbers)) _ d lent (verdict-small (loadRows d numbers) tt) room)
+    rw same (settle-printed Nothing (verdict (loadRows d numbers)) _ d lent (verdict-small (loadRows d numbers) tt) room)
 reply-printed d (cycles fields) lent same room =
-    rw same (settle-printed (verdict (cycleRows d fields)) (cycled d fields) d lent (verdict-small (cycleRows d fields) tt) room)
+    rw same
+    (settle-printed (judgedBy d fields) (verdict (cycleRows d fields)) (cycled d fields) d lent
+    (verdict-small (cycleRows d fields) tt) room)
 reply-printed d (ticks fields) lent same room =
-    rw same (settle-printed (verdict (tickRows d fields)) (ticked d fields) d lent (verdict-small (tickRows d fields) tt) room)
+    rw same (settle-printed Nothing (verdict (tickRows d fields)) (ticked d fields) d lent (verdict-small (tickRows d fields) tt) room)
 reply-printed d (blockLoads image block) lent same room =
     rw same
-    (settle-printed (verdict (blockRows d image block)) _ (leftByBlock d image block) lent
+    (settle-printed Nothing (verdict (blockRows d image block)) _ (leftByBlock d image block) lent
     (verdict-small (blockRows d image block) tt) room)

@@ -12,7 +12,7 @@ ghost use Rattle.report.specs.Refusals.{lineVerdict};
 ghost use Rattle.report.specs.Line.{lentAfter};
 
 // How many bytes a line has.
-pub const LINE_LENGTH: usize = 45;
+pub const LINE_LENGTH: usize = 47;
 
 // The rows stand from the last to the first, so that the first that holds is left.
 fn verdict(answer: Answer, lent: usize) -> Verdict

@@ -95,3 +95,14 @@ pub(crate) fn put_name(lent: &mut [u8], at: usize, state: u8, end: u8) -> usize
         _ => put(lent, at, b"ANGLESENSING", end),
     }
 }
+
+// A single byte as it is.
+pub(crate) fn put_letter(lent: &mut [u8], at: usize, letter: u8, end: u8) -> usize
+    requires { ⌜ at + 1 < length (now lent) ⌝ }
+    ensures next { λ r. ⌜ r ≡ at + 1 + 1 ⌝ }
+    ensures lent { λ _. ⌜ now (lent .exit) ≡ sets (now (lent .entry)) at (letter ∷ end ∷ []) ⌝ }
+{
+    lent[at] = letter;
+    lent[at + 1] = end;
+    at + 2
+}

@@ -1,5 +1,6 @@
 // The line, field by field.
 use crate::put::put_digits;
+use crate::put::put_letter;
 use crate::put::put_name;
 use crate::put::put_signed;
 use drive::answer::Answer;
@@ -22,5 +23,7 @@ pub(crate) fn fields(answer: Answer, lent: &mut [u8])
     let at = put_digits(lent, at, answer.live as u32, 16, 4, b' ');
     let at = put_signed(lent, at, answer.reference, b' ');
     let at = put_digits(lent, at, answer.position, 16, 8, b' ');
-    put_signed(lent, at, answer.angle, b'\n');
+    let at = put_signed(lent, at, answer.angle, b' ');
+    let judged = answer.judged;
+    put_letter(lent, at, judged.letter(), b'\n');
 }

@@ -1,6 +1,8 @@
 // Calls the line writer and prints what happened: number, place and the lent bytes, each of which is a '#' before the call.
 use drive::answer::Answer;
+use drive::answer::Judged;
 use drive::offsets::Pair;
+use hall::fate::Fate;
 use libc::STDOUT_FILENO;
 use report::LINE_LENGTH;
 
@@ -29,8 +31,8 @@ fn call_spacious(answer: Answer) {
     call(answer, &mut lent);
 }
 
-// An answer that shows no more than these three, and one that shows the other four.
-fn judged(number: u8, state: u8, gate: u8) -> Answer {
+// An answer that shows no more than these three, one that shows the four behind them, and one that tells of a sample.
+fn shows(number: u8, state: u8, gate: u8) -> Answer {
     Answer {
         number,
         place: 0,
@@ -45,6 +47,7 @@ fn judged(number: u8, state: u8, gate: u8) -> Answer {
             second: 0,
         },
         retries: 0,
+        judged: Judged::Nothing,
     }
 }
 
@@ -63,38 +66,46 @@ fn measured(live: u16, reference: i16, position: u32, angle: i16) -> Answer {
             second: 0,
         },
         retries: 0,
+        judged: Judged::Nothing,
+    }
+}
+
+fn telling(fate: Fate) -> Answer {
+    Answer {
+        judged: Judged::Sample(fate),
+        ..measured(0, 0, 0, 0)
     }
 }
 
 fn rooms() {
-    call_short(judged(0, 1, 0));
-    call_exact(judged(0, 1, 0));
-    call_spacious(judged(0, 1, 0));
+    call_short(shows(0, 1, 0));
+    call_exact(shows(0, 1, 0));
+    call_spacious(shows(0, 1, 0));
 }
 
 // Each place by itself, and each before the later ones.
 fn refusals() {
-    call_spacious(judged(16, 9, 3));
-    call_spacious(judged(15, 10, 3));
-    call_spacious(judged(15, 9, 4));
-    call_short(judged(16, 10, 4));
-    call_exact(judged(255, 255, 255));
-    call_exact(judged(15, 255, 255));
-    call_exact(judged(15, 9, 255));
-    call_exact(judged(15, 9, 3));
+    call_spacious(shows(16, 9, 3));
+    call_spacious(shows(15, 10, 3));
+    call_spacious(shows(15, 9, 4));
+    call_short(shows(16, 10, 4));
+    call_exact(shows(255, 255, 255));
+    call_exact(shows(15, 255, 255));
+    call_exact(shows(15, 9, 255));
+    call_exact(shows(15, 9, 3));
 }
 
 fn states() {
-    call_exact(judged(0, 0, 0));
-    call_exact(judged(1, 1, 1));
-    call_exact(judged(2, 2, 2));
-    call_exact(judged(3, 3, 3));
-    call_exact(judged(4, 4, 0));
-    call_exact(judged(9, 5, 0));
-    call_exact(judged(10, 6, 0));
-    call_exact(judged(11, 7, 0));
-    call_exact(judged(12, 8, 0));
-    call_exact(judged(13, 9, 0));
+    call_exact(shows(0, 0, 0));
+    call_exact(shows(1, 1, 1));
+    call_exact(shows(2, 2, 2));
+    call_exact(shows(3, 3, 3));
+    call_exact(shows(4, 4, 0));
+    call_exact(shows(9, 5, 0));
+    call_exact(shows(10, 6, 0));
+    call_exact(shows(11, 7, 0));
+    call_exact(shows(12, 8, 0));
+    call_exact(shows(13, 9, 0));
 }
 
 fn fields() {
@@ -127,10 +138,22 @@ fn digits() {
     call_exact(measured(0xf012, 5678, 0xf0123456, -123));
 }
 
+fn fates() {
+    call_exact(telling(Fate::First));
+    call_exact(telling(Fate::Same));
+    call_exact(telling(Fate::Forward));
+    call_exact(telling(Fate::Back));
+    call_exact(telling(Fate::Dead));
+    call_exact(telling(Fate::Stray));
+    call_exact(measured(0, 0, 0, 0));
+    call_spacious(telling(Fate::Stray));
+}
+
 fn main() {
     rooms();
     refusals();
     states();
     fields();
     digits();
+    fates();
 }

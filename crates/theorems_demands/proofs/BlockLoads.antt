@@ -17,7 +17,7 @@ use Rattle.images.specs.Table.{wellFormed, numbersIn}
 use Rattle.images.specs.Reads.{numberOf, readRows, foundOf}
 use Rattle.images.proofs.Inverse.{reader-returns, taken-is-made}
 use Rattle.images.proofs.Written as Written
-use Rattle.drive.specs.Answer.{answer, reply as shown}
+use Rattle.drive.specs.Answer.{answerTelling, reply as shown}
 use Rattle.drive.specs.Refusals.{loadRows}
 use Rattle.drive.specs.Calls.{settle, loaded, load}
 use Rattle.drive.specs.Blocks.{blockNumbers, blockRows, marked, leftByBlock, blockLoad}
@@ -36,7 +36,7 @@ either-left : (idle : Bool) (v : Verdict) (next d : Drive)
     → settle v next (cond idle (marked d) d)
     ≡ (let r : Reply = settle v next d in
     cond (idle && not (eqb (r .answer .number) 0)) (shown (r .answer .number) (r .answer .place) (marked d)) r)
-unfolding answer
+unfolding answerTelling
 either-left idle v next d = by idle (eqb (v .number) 0) refl
   where
     by : (idle t : Bool) → eqb (v .number) 0 ≡ t
@@ -99,7 +99,7 @@ malformed d image k small none = by (wellFormed fifteen image) refl
 
 -- ---- flag 12 is no latch: a load of either kind that is accepted without it is accepted with it, and comes to the same
 latched : (v : Verdict) (next d e : Drive) → settle v next d .answer .number ≡ 0 → settle v next e ≡ settle v next d
-unfolding answer
+unfolding answerTelling
 latched v next d e accepted = by (eqb (v .number) 0) refl accepted
   where
     differs : false ≡ true → ⊥

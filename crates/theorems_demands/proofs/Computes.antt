@@ -23,7 +23,7 @@ use Rattle.drive.specs.Ticks
 
 unfoldable pub computes : Unit {0}
 unfolding Fate.fate Fate.beside Angle.twelfth Angle.withOffset Sample.sampled Sample.deadSample Sample.straySample
-    Reference.toward Reference.target0 Reference.targetOf Answer.answer Causes.causes Counts.watched Moves.moveOf
+    Reference.toward Reference.target0 Reference.targetOf Answer.answerTelling Causes.causes Counts.watched Moves.moveOf
     Settings.meant Rules.settingRows Calls.load Calls.cycle Ticks.tick Calls.cycled Ticks.ticked
     Bytes.numbers Bytes.words Image.pieces Image.imageOf Table.keeps Table.ends Table.kept Table.tabled Table.wellFormed
     Reading.foundOf Blocks.blockLoad Words.numbersFrom Words.stored

@@ -14,13 +14,14 @@ use Rattle.verdicts.specs.Table.{verdict}
 use Rattle.verdicts.proofs.Passed.{both-passed}
 use Rattle.images.specs.Image.{fifteen}
 use Rattle.images.specs.Reads.{readRows}
-use Rattle.drive.specs.Answer.{answer}
+use Rattle.drive.specs.Answer.{answerTelling}
 use Rattle.drive.specs.Refusals.{loadRows, tickRows}
 use Rattle.drive.specs.Blocks.{blockNumbers, blockRows}
 use Rattle.drive.specs.Ticks.{ticked}
 use Rattle.drive.specs.Ticks as TickCalls
 use Rattle.drive.specs.AnyCall.{Call, loads, cycles, ticks, blockLoads, reply}
 use Rattle.drive.specs.declared.Drive.{Drive}
+use Rattle.drive.specs.declared.answer.Judged.the-variants.{Nothing}
 use Rattle.drive.specs.declared.answer.Reply.{Reply}
 use Rattle.drive.proofs.Settles.{refusal}
 use Rattle.theorems_history.specs.Onlooker.{Asked, tick, neither, heard, isTick}
@@ -50,7 +51,7 @@ module _ (d : Drive) (running : T (is 4 (d .state))) where
 -- a refused tick, anywhere
 tick-leaves : (d : Drive) (t : Tick) → (reply d (ticks t) .answer .number ≡ 0 → ⊥) → reply d (ticks t) .drive ≡ d
 unfolding TickCalls.tick
-tick-leaves d t given = ap (λ (a : Reply). a .drive) (refusal (verdict (tickRows d t)) (ticked d t) d given)
+tick-leaves d t given = ap (λ (a : Reply). a .drive) (refusal Nothing (verdict (tickRows d t)) (ticked d t) d given)
 
 -- of a call that asks nothing of a tick he hears of none
 hears-none : (test : Bool) (about : Asked Tick) → T (not (isTick words about)) → T (not (isTick words (cond test about neither)))
@@ -65,7 +66,7 @@ module _ (d other : Drive) (a : Alike d other) (running : T (is 4 (d .state))) w
 
   -- a tick that is accepted with its torque is so without, by the other
   pub accepted-too : (t : Tick) → reply d (ticks t) .answer .number ≡ 0 → reply other (ticks (slack t)) .answer .number ≡ 0
-  unfolding answer
+  unfolding answerTelling
   accepted-too t taken =
       let rows-alike = ap (λ (drive : Drive). verdict (tickRows drive (slack t)) .number) (a .same) in
       ap (λ (r : Reply). r .answer .number) (accepted other (slack t) (rows-alike ∙ without d t (unrefused d t taken)))

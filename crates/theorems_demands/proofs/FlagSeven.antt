@@ -27,7 +27,7 @@ use Rattle.moves.specs.declared.Move.the-variants.{Stay, Enter}
 use Rattle.drive.specs.Flags.{alwaysLive, alive}
 use Rattle.drive.specs.Causes.{causeFlags, causes}
 use Rattle.drive.specs.Command.{low}
-use Rattle.drive.specs.Answer.{answer}
+use Rattle.drive.specs.Answer.{answer, answerTelling}
 use Rattle.drive.specs.Ticks.{watch, standing, raised, alight, armedBy, nth, chosen, moved, ticked}
 use Rattle.drive.specs.declared.Drive.{Drive}
 use Rattle.theorems_reached.specs.Reached.{Loaded, Reached}
@@ -139,13 +139,13 @@ module _ (d : Drive) (running : T (is 4 (d .state))) where
   flags-left t false false = refl
 
   live-left : (t : Tick) (a b : Bool) → answer 0 0 (next t (choice a b)) .live ≡ alive settings (raised d t)
-  unfolding answer
+  unfolding answerTelling
   live-left t true b = refl
   live-left t false true = refl
   live-left t false false = refl
 
   state-left : (t : Tick) (a b : Bool) → answer 0 0 (next t (choice a b)) .state ≡ cond a 5 (cond b 1 4)
-  unfolding answer
+  unfolding answerTelling
   state-left t true b = refl
   state-left t false true = refl
   state-left t false false = eqb-yes running
@@ -232,11 +232,11 @@ module _ (d : Drive) (running : T (is 4 (d .state))) where
       trip-answer :
           alive settings (raised d t) ≡ 2 ^ 7
           → answer 0 0 (next t (Enter Fault)) ≡ trippedBy7 (answer 0 0 (next (slack t) Stay))
-      unfolding answer
+      unfolding answerTelling
       trip-answer live = rw live
 
       run-answer : alive settings (raised d t) ≡ 0 → answer 0 0 (next t Stay) ≡ answer 0 0 (next (slack t) Stay)
-      unfolding answer watched targetOf
+      unfolding answerTelling watched targetOf
       run-answer live = rw (live, dark (slack t) runs-on, is-true (is 4 (d .state)) running)
 
       by-flag :

@@ -22,11 +22,13 @@ use Rattle.moves.specs.declared.Move.the-variants.{Stay, Enter, Measure, Clear,
 use Rattle.moves.proofs.Ways.{Way, trips, stops, goes-on, calibrates, starts, measures, clears, tries-again, waits, rests, way-of}
 use Rattle.moves.proofs.Ways.{goes}
 use Rattle.drive.specs.Flags.{alwaysLive, alive}
-use Rattle.drive.specs.Answer.{liveWord, answer}
+use Rattle.drive.specs.Answer.{liveWord, answer, answerTelling}
 use Rattle.verdicts.proofs.Passed.{passed}
 use Rattle.drive.specs.Refusals.{tickRows}
-use Rattle.drive.specs.Calls.{loaded, sample, cycled}
+use Rattle.drive.specs.Calls.{loaded, sample, judgedBy, cycled}
 use Rattle.drive.specs.Blocks.{blockNumbers, marked}
+use Rattle.drive.specs.declared.answer.Judged.{Judged}
+use Rattle.drive.specs.declared.answer.Judged.the-variants.{Nothing}
 use Rattle.drive.specs.declared.answer.Reply.{Reply}
 use Rattle.drive.proofs.EachCall.{each-call}
 use Rattle.drive.specs.Ticks.{watch, standing, raised, armedBy, nth, grounds, moved, ticked}
@@ -61,7 +63,7 @@ unheard-refusal :
     (call : Call) (number at : ℕ) (left : Drive)
     → eqb number 0 ≡ false
     → heard words (made call (answer number at left)) ≡ neither
-unfolding answer
+unfolding answerTelling
 unheard-refusal call number at left given = rw given
 
 -- an accepted load clears every flag
@@ -69,7 +71,7 @@ loaded-shown :
     (past : Log) (call : Call) (numbers : List ℕ)
     → T (isLoad words (asked call))
     → bit 7 (liveWord (loaded numbers)) ≡ shows7 (made call (answer 0 0 (loaded numbers)) ∷ past)
-unfolding answer shows7
+unfolding answerTelling shows7
 loaded-shown past call numbers loads-it =
     rw (is-true (isLoad words (asked call)) loads-it)
 
@@ -100,7 +102,7 @@ module _ (d : Drive) (r : Reached d) (past : Log) (knows : Remembers d (memoryOf
           → liveWord after ≡ alive (d .settings) (raised d t)
           → T (not (is 5 (d .state) && not (is 5 (after .state))))
           → bit 7 (liveWord after) ≡ shows7 (made (ticks t) (answer 0 0 after) ∷ past)
-      unfolding answer shows7 stalledFor
+      unfolding answerTelling shows7 stalledFor
       stays after live no-exit =
           ap (bit 7) live
           ∙ seven.raises-7 d t
@@ -119,7 +121,7 @@ module _ (d : Drive) (r : Reached d) (past : Log) (knows : Remembers d (memoryOf
           → T (not (is 5 (after .state)))
           → after .flags ≡ 0
           → bit 7 (liveWord after) ≡ shows7 (made (ticks t) (answer 0 0 after) ∷ past)
-      unfolding answer shows7
+      unfolding answerTelling shows7
       exits after fault left none =
           rw (
             none,
@@ -162,13 +164,13 @@ module _ (d : Drive) (r : Reached d) (past : Log) (knows : Remembers d (memoryOf
   module _ (shown : bit 7 (liveWord d) ≡ shows7 past) where
     -- a call of which he hears nothing, that leaves the state and adds no flag 7
     passes :
-        (call : Call) (after : Drive) (number at : ℕ)
+        (judged : Judged) (call : Call) (after : Drive) (number at : ℕ)
         → after .state ≡ d .state
-        → heard words (made call (answer number at after)) ≡ neither
+        → heard words (made call (answerTelling judged number at after)) ≡ neither
         → bit 7 (liveWord after) ≡ bit 7 (liveWord d)
-        → bit 7 (liveWord after) ≡ shows7 (made call (answer number at after) ∷ past)
-    unfolding answer shows7
-    passes call after number at stayed unheard same =
+        → bit 7 (liveWord after) ≡ shows7 (made call (answerTelling judged number at after) ∷ past)
+    unfolding answerTelling shows7
+    passes judged call after number at stayed unheard same =
         same
         ∙ shown
         ∙ rw (unheard, knows .shown, stayed, is-false (is 5 (d .state) && not (is 5 (d .state))) (never-both (is 5 (d .state))))
@@ -178,7 +180,7 @@ module _ (d : Drive) (r : Reached d) (past : Log) (knows : Remembers d (memoryOf
         (call : Call) (number at : ℕ)
         → eqb number 0 ≡ false
         → bit 7 (liveWord d) ≡ shows7 (made call (answer number at d) ∷ past)
-    refused call number at given = passes call d number at refl (unheard-refusal call number at d given) refl
+    refused call number at given = passes Nothing call d number at refl (unheard-refusal call number at d given) refl
 
     -- a refused block load may set flag 12
     refused-marked :
@@ -186,14 +188,16 @@ module _ (d : Drive) (r : Reached d) (past : Log) (knows : Remembers d (memoryOf
         → eqb number 0 ≡ false
         → bit 7 (liveWord (marked d)) ≡ shows7 (made call (answer number at (marked d)) ∷ past)
     refused-marked call number at given =
-        passes call (marked d) number at refl (unheard-refusal call number at (marked d) given)
+        passes Nothing call (marked d) number at refl (unheard-refusal call number at (marked d) given)
         (seven.no-7 (d .settings) (d .flags) (flag 12 true) refl)
 
     -- and a cycle flag 15
-    cycle-shown : (c : Cycle) → bit 7 (liveWord (cycled d c)) ≡ shows7 (made (cycles c) (answer 0 0 (cycled d c)) ∷ past)
-    unfolding answer cycled
+    cycle-shown :
+        (c : Cycle)
+        → bit 7 (liveWord (cycled d c)) ≡ shows7 (made (cycles c) (answerTelling (judgedBy d c) 0 0 (cycled d c)) ∷ past)
+    unfolding answerTelling cycled
     cycle-shown c =
-        passes (cycles c) (cycled d c) 0 0 refl refl
+        passes (judgedBy d c) (cycles c) (cycled d c) 0 0 refl refl
         (seven.no-7 (d .settings) (d .flags) (flag 15 (sample d c .flagged)) (only-15 (sample d c .flagged)))
       where
         only-15 : (set : Bool) → bit 7 (flag 15 set) ≡ false

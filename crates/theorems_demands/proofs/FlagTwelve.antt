@@ -24,16 +24,17 @@ use Rattle.theorems_history.specs.Log.{Entry, stateAfter, log}
 use Rattle.images.specs.Image.{fifteen}
 use Rattle.images.specs.Table.{wellFormed}
 use Rattle.images.specs.Reads.{foundOf, isRead}
-use Rattle.drive.specs.Answer.{liveWord, answer}
+use Rattle.drive.specs.Answer.{liveWord, answer, answerTelling}
 use Rattle.drive.specs.Refusals.{cycleRows, tickRows}
 use Rattle.drive.specs.Flags.{alwaysLive, alive}
-use Rattle.drive.specs.Calls.{loaded, cycled}
+use Rattle.drive.specs.Calls.{loaded, judgedBy, cycled}
 use Rattle.drive.specs.Blocks.{blockNumbers, marked}
 use Rattle.drive.specs.Ticks.{ticked}
 use Rattle.drive.specs.Ticks as TickCalls
 use Rattle.drive.specs.AnyCall.{Call, loads, cycles, ticks, blockLoads, reply}
 use Rattle.drive.specs.declared.Drive.{Drive}
 use Rattle.drive.specs.declared.answer.Answer.{Answer}
+use Rattle.drive.specs.declared.answer.Judged.the-variants.{Nothing}
 use Rattle.drive.specs.declared.answer.Reply.{Reply}
 use Rattle.drive.proofs.EachCall.{marks, each-call}
 use Rattle.drive.proofs.Settles.{tick-keeps-settings}
@@ -101,7 +102,7 @@ module _ (d : Drive) (r : Reached d) (log : Log) (told : Told d log) where
       (call : Call) (number at : ℕ) (left : Drive)
       → eqb number 0 ≡ false
       → refused-now (made call (answer number at left)) log ≡ marks d call
-  unfolding answer
+  unfolding answerTelling
   noted (loads numbers) number at left given = refl
   noted (cycles c) number at left given = refl
   noted (ticks t) number at left given = refl
@@ -114,7 +115,7 @@ module _ (d : Drive) (r : Reached d) (log : Log) (told : Told d log) where
 
   refused : (call : Call) (number at : ℕ) → T (not (marks d call)) → eqb number 0 ≡ false
       → Told d (made call (answer number at d) ∷ log)
-  unfolding answer
+  unfolding answerTelling
   refused call number at dark given =
       stays (made call (answer number at d)) d (rw given (and-false (isLoad call)))
       (noted call number at d given ∙ is-false (marks d call) dark)
@@ -127,7 +128,7 @@ module _ (d : Drive) (r : Reached d) (log : Log) (told : Told d log) where
       → T (marks d (blockLoads image block))
       → eqb number 0 ≡ false
       → Told (marked d) (made (blockLoads image block) (answer number at (marked d)) ∷ log)
-  unfolding answer loadedYet lit
+  unfolding answerTelling loadedYet lit
   refused-marked image block number at sets given =
       let call : Call = blockLoads image block in
       let idle = and-yes (isRead fifteen image block) (is 0 (d .state)) sets .1 in
@@ -145,7 +146,7 @@ module _ (d : Drive) (r : Reached d) (log : Log) (told : Told d log) where
   yet : T (not (is 0 (d .state))) → loadedYet log ≡ false → ⊥
   yet outside asleep = T-not (is 0 (d .state)) (rw (told .asleep, asleep) tt) outside
 
-  cycle-told : (c : Cycle) → T (not (is 0 (d .state))) → Told (cycled d c) (made (cycles c) (answer 0 0 (cycled d c)) ∷ log)
+  cycle-told : (c : Cycle) → T (not (is 0 (d .state))) → Told (cycled d c) (made (cycles c) (answerTelling (judgedBy d c) 0 0 (cycled d c)) ∷ log)
   unfolding cycled
   cycle-told c outside = stays _ (cycled d c) refl refl refl (λ asleep. absurd (yet outside asleep))
 
@@ -172,7 +173,7 @@ module _ (d : Drive) (r : Reached d) (log : Log) (told : Told d log) where
         stays _ (ticked d t) refl refl (awake ∙ sym (is-false (is 0 (d .state)) outside)) (λ asleep. absurd (yet outside asleep))
 
   after-call : (call : Call) → Told (reply d call .drive) (made call (reply d call .answer) ∷ log)
-  unfolding TickCalls.tick answer
+  unfolding TickCalls.tick answerTelling
   after-call =
       each-call d (λ (call : Call) (a : Reply). Told (a .drive) (made call (a .answer) ∷ log))
       (record {
@@ -237,8 +238,9 @@ pub idle-shows :
       angle = pos 0;
       offsets = record { first = 0; second = 0 };
       retries = 0;
+      judged = Nothing;
     }
-unfolding answer
+unfolding answerTelling
 idle-shows calls number place asleep =
     let told = all-told calls in
     let idle : T (is 0 (stateAfter machine calls .state)) = rw (told .asleep, asleep) tt in
@@ -257,5 +259,6 @@ idle-shows calls number place asleep =
       angle = pos 0;
       offsets = record { first = 0; second = 0 };
       retries = 0;
+      judged = Nothing;
     })
     refl refl idle)

@@ -22,9 +22,9 @@ use Rattle.moves.proofs.Ways.{Way, Onward, trips, stops, goes-on, calibrates, s
 use Rattle.moves.proofs.Ways.{charged, unasked, caught, slow, unsensed, sensed, parked, unramped, fast}
 use Rattle.theorems_history.specs.Log.{stateAfter, log}
 use Rattle.theorems_history.specs.Onlooker.{tick, memoryOf}
-use Rattle.drive.specs.Answer.{answer}
+use Rattle.drive.specs.Answer.{answer, answerTelling}
 use Rattle.drive.specs.Refusals.{tickRows}
-use Rattle.drive.specs.Calls.{loaded, cycled}
+use Rattle.drive.specs.Calls.{loaded, judgedBy, cycled}
 use Rattle.drive.specs.Blocks.{marked}
 use Rattle.drive.specs.Ticks.{watch, standing, raised, armedBy, nth, grounds, moved, ticked}
 use Rattle.drive.specs.Ticks as TickCalls
@@ -119,7 +119,7 @@ module _ (d : Drive) (past : Log) (knows : Remembers d (memoryOf words past)) (c
     by-move Retry way at = absurd at
 
     tick-counted : Counted (ticked d t) (made (ticks t) (answer 0 0 (ticked d t)) ∷ past)
-    unfolding answer ticked stalledFor
+    unfolding answerTelling ticked stalledFor
     tick-counted at = rw log-now (by-move (TickCalls.chosen d t) (way-of (grounds d t (standing d t) (raised d t))) at)
 
   -- a refused call changes neither count
@@ -127,12 +127,12 @@ module _ (d : Drive) (past : Log) (knows : Remembers d (memoryOf words past)) (c
       (call : Call) (number at flags : ℕ)
       → eqb number 0 ≡ false
       → (let left : Drive = flagged d flags in Counted left (made call (answer number at left) ∷ past))
-  unfolding answer stalledFor
+  unfolding answerTelling stalledFor
   refused call number at flags given running = rw given (counted running)
 
   -- .. and neither does a cycle
-  cycle-counted : (c : Cycle) → Counted (cycled d c) (made (cycles c) (answer 0 0 (cycled d c)) ∷ past)
-  unfolding answer cycled stalledFor
+  cycle-counted : (c : Cycle) → Counted (cycled d c) (made (cycles c) (answerTelling (judgedBy d c) 0 0 (cycled d c)) ∷ past)
+  unfolding answerTelling cycled stalledFor
   cycle-counted c = counted
 
   after-call : (call : Call) → Counted (reply d call .drive) (made call (reply d call .answer) ∷ past)

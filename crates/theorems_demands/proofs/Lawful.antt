@@ -20,10 +20,10 @@ use Rattle.faults.specs.Word.{flag, _or_, any}
 use Rattle.faults.proofs.Bits.{old-stays}
 use Rattle.drive.specs.Flags.{alwaysLive}
 use Rattle.drive.specs.Command.{low}
-use Rattle.drive.specs.Answer.{liveWord, answer, reply as replied}
+use Rattle.drive.specs.Answer.{liveWord, answer, answerTelling, replyTelling, reply as replied}
 use Rattle.verdicts.specs.Table.{verdict}
 use Rattle.drive.specs.Refusals.{highestPattern, loadRows, cycleRows, tickRows}
-use Rattle.drive.specs.Calls.{becomes, loaded, cycled, sample}
+use Rattle.drive.specs.Calls.{becomes, loaded, judgedBy, cycled, sample}
 use Rattle.images.specs.Image.{fifteen}
 use Rattle.images.specs.Reads.{readRows, isRead}
 use Rattle.drive.specs.Blocks.{blockNumbers, blockRows, marked}
@@ -116,7 +116,7 @@ module _ (d : Drive) (r : Reached d) (memory : Memory) (knows : Remembers d memo
         → Remembers stood now
         → now .numbers ≡ memory .numbers
         → Step (inside d) (noted words memory neither now (answer number at stood)) (inside stood)
-    unfolding answer
+    unfolding answerTelling
     stands number at now r-now more knows-now same =
         Steps.passes-by (inside d) (noted words memory neither now (answer number at stood)) (inside stood) (gates-ask number at stood)
         (rw same within)
@@ -149,11 +149,11 @@ module _ (d : Drive) (r : Reached d) (memory : Memory) (knows : Remembers d memo
     after = afterRefused memory call number at left
 
     heard-nothing : heard words (record { call = call; answer = answer number at left }) ≡ neither
-    unfolding answer
+    unfolding answerTelling
     heard-nothing = rw not-0
 
     loaded-nothing : after .numbers ≡ memory .numbers
-    unfolding answer
+    unfolding answerTelling
     loaded-nothing = rw not-0
 
     refused-with : Done d memory call (replied number at left)
@@ -177,7 +177,7 @@ module _ (d : Drive) (r : Reached d) (memory : Memory) (knows : Remembers d memo
       → T (is 0 (d .state) || is 1 (d .state))
       → (eqb (length numbers) settingCount || eqb (length numbers) allSettings) ≡ true
       → Done d memory call (replied 0 0 (loaded (meant numbers)))
-  unfolding answer
+  unfolding answerTelling
   load-done call numbers asks none admitted either =
       let next : Drive = loaded (meant numbers) in
       record {
@@ -196,8 +196,8 @@ module _ (d : Drive) (r : Reached d) (memory : Memory) (knows : Remembers d memo
       → Reached (cycled d c)
       → T (not (is 0 (d .state)))
       → c .pattern ≤ highestPattern (d .sensors)
-      → Done d memory (cycles c) (replied 0 0 (cycled d c))
-  unfolding answer cycled
+      → Done d memory (cycles c) (replyTelling (judgedBy d c) 0 0 (cycled d c))
+  unfolding answerTelling cycled
   cycle-done c r-now outside small =
       let now = cycle-remembers d memory knows c outside small in
       record {

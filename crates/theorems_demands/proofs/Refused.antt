@@ -14,7 +14,7 @@ use borrow.Author.Tests.{ne-eqb}
 use lib.Ieee.Bits.{is-true}
 use mir.Facts.{T-not, and-yes, yes-and}
 use Rattle.numbers.proofs.Tests.{by-test, decide}
-use Rattle.drive.specs.Answer.{answer, reply as shown}
+use Rattle.drive.specs.Answer.{answerTelling, reply as shown}
 use Rattle.verdicts.specs.Table.{Row, row, verdict}
 use Rattle.verdicts.proofs.Passed.{behind-passed, before-later, one-number}
 use Rattle.settings.specs.Rules.{settingRows}
@@ -30,6 +30,7 @@ use Rattle.drive.specs.Ticks
 use Rattle.drive.specs.AnyCall.{Call, loads, cycles, ticks, blockLoads, reply}
 use Rattle.drive.specs.declared.Drive.{Drive}
 use Rattle.drive.specs.declared.answer.Answer.{Answer}
+use Rattle.drive.specs.declared.answer.Judged.the-variants.{Nothing}
 use Rattle.drive.specs.declared.answer.Reply.{Reply}
 use Rattle.report.specs.Refusals.{lineLength, lineVerdict, accepts}
 use Rattle.report.specs.Line.{line, lentAfter}
@@ -48,11 +49,11 @@ pub refused-unchanged :
     → (reply d call .answer .number ≡ 0 → ⊥)
     → reply d call ≡ shown (verdict (rows d call) .number) (verdict (rows d call) .place) (cond (amended d call) (marked d) d)
 unfolding Calls.load Calls.cycle Ticks.tick Blocks.blockLoad
-refused-unchanged d (loads numbers) given = refusal (verdict (loadRows d numbers)) _ d given
-refused-unchanged d (cycles fields) given = refusal (verdict (cycleRows d fields)) _ d given
-refused-unchanged d (ticks fields) given = refusal (verdict (tickRows d fields)) _ d given
+refused-unchanged d (loads numbers) given = refusal Nothing (verdict (loadRows d numbers)) _ d given
+refused-unchanged d (cycles fields) given = refusal (Calls.judgedBy d fields) (verdict (cycleRows d fields)) _ d given
+refused-unchanged d (ticks fields) given = refusal Nothing (verdict (tickRows d fields)) _ d given
 refused-unchanged d (blockLoads image block) given =
-    refusal (verdict (blockRows d image block)) _ (leftByBlock d image block) given
+    refusal Nothing (verdict (blockRows d image block)) _ (leftByBlock d image block) given
 
 -- and a caller sees by the number where that is: it is a block load in IDLE that is answered with 2
 not-2 : (a b c : Bool) → verdict (row 7 0 a ∷ row 8 0 b ∷ row 9 0 c ∷ []) .number ≡ 2 → ⊥
@@ -100,7 +101,7 @@ module _ (d : Drive) (image : List ℕ) (block : ℕ) where
   -- its number is that of the first row that holds
   number-told : (reply d (blockLoads image block) .answer .number ≡ 0 → ⊥)
       → reply d (blockLoads image block) .answer .number ≡ verdict (blockRows d image block) .number
-  unfolding answer
+  unfolding answerTelling
   number-told given = ap (λ (r : Reply). r .answer .number) (refused-unchanged d (blockLoads image block) given)
 
   pub amended-answers-2 :

@@ -9,7 +9,7 @@ use lib.Ieee.Bits.{is-true}
 use lib.ListN.{length, getD}
 use Rattle.theorems_history.specs.Onlooker.{Memory, nothingYet, load, remember}
 use Rattle.states.specs.States.{numberOf, is}
-use Rattle.drive.specs.Answer.{answer}
+use Rattle.drive.specs.Answer.{answer, answerTelling}
 use Rattle.settings.specs.Settings.{settingCount, allSettings, meant}
 use Rattle.settings.proofs.Meant.{length-meant}
 use Rattle.numbers.proofs.Fill.{first-at}
@@ -76,7 +76,7 @@ module _ (d : Drive) (memory : Memory) (knows : Remembers d memory) where
       (flags : ℕ) (call : Call) (number at : ℕ)
       → eqb number 0 ≡ false
       → (let left : Drive = flagged d flags in Remembers left (afterRefused memory call number at left))
-  unfolding answer
+  unfolding answerTelling
   refused-remembers flags call number at refused =
       record {
         loaded = λ outside. rw refused (knows .loaded outside);
@@ -92,7 +92,7 @@ module _ (d : Drive) (memory : Memory) (knows : Remembers d memory) where
       → deadAfter (memory .numbers) call (memory .dead) ≡ 0
       → (eqb (length numbers) settingCount || eqb (length numbers) allSettings) ≡ true
       → Remembers (loaded (meant numbers)) (afterAccepted memory call (loaded (meant numbers)))
-  unfolding answer
+  unfolding answerTelling
   load-remembers call numbers asks none either =
       record {
         loaded = λ t.
@@ -113,7 +113,7 @@ module _ (d : Drive) (memory : Memory) (knows : Remembers d memory) where
       → T (not (is 0 (d .state)))
       → c .pattern ≤ highestPattern (d .sensors)
       → Remembers (cycled d c) (afterAccepted memory (cycles c) (cycled d c))
-  unfolding answer cycled
+  unfolding answerTelling cycled
   cycle-remembers c outside small =
       record {
         loaded = knows .loaded;
@@ -132,11 +132,11 @@ module _ (d : Drive) (memory : Memory) (knows : Remembers d memory) where
     arrives :
         {state : State} {flags retries : ℕ} {offsets : Offsets} {run : Run} {armed : Bool}
         → (let after : Drive = arrive d state flags offsets run armed retries in Remembers after (afterAccepted memory (ticks t) after))
-    unfolding answer
+    unfolding answerTelling
     arrives = record { loaded = λ u. knows .loaded outside; shown = refl; waited = λ fault. zero-le; dead = knows .dead }
 
     by-move : (move : Move) → Remembers (next move) (afterAccepted memory (ticks t) (next move))
-    unfolding answer
+    unfolding answerTelling
     by-move Stay =
         record {
           loaded = knows .loaded;

@@ -9,7 +9,7 @@ use Rattle.theorems_history.specs.Log.{Entry}
 use Rattle.theorems_history.specs.Laws.{Inside}
 use Rattle.states.specs.States.{is, turning}
 use Rattle.faults.specs.Word.{any}
-use Rattle.drive.specs.Answer.{liveWord, answer}
+use Rattle.drive.specs.Answer.{liveWord, answer, answerTelling}
 use Rattle.drive.specs.AnyCall.{Call, reply}
 use Rattle.drive.specs.declared.Drive.{Drive}
 use Rattle.drive.specs.declared.answer.Answer.{Answer}
@@ -24,7 +24,7 @@ made call answer = record { call = call; answer = answer }
 
 -- each answer shows the live word of the state that its call leaves
 pub answer-shows : (d : Drive) (call : Call) → reply d call .answer .live ≡ liveWord (reply d call .drive)
-unfolding answer
+unfolding answerTelling
 answer-shows d =
     each-call d (λ (call : Call) (a : Reply). a .answer .live ≡ liveWord (a .drive))
     (record {
@@ -48,11 +48,11 @@ inside d =
 
 module _ (number at : ℕ) (d : Drive) where
   pub fault-shown : words .liveShown (answer number at d) ≡ inside d .faulted
-  unfolding answer
+  unfolding answerTelling
   fault-shown = refl
 
   pub gates-ask : T (words .turns (answer number at d)) → T (inside d .turning)
-  unfolding answer
+  unfolding answerTelling
   gates-ask t =
       let (dark, turns) = and-yes (not (any (liveWord d))) (turning (d .state)) (subst T (gates-by (d .state) (liveWord d)) t) in
       yes-and (turning (d .state)) (not (any (liveWord d))) turns dark
@@ -65,9 +65,9 @@ module _ (number at : ℕ) (d : Drive) where
     dark = and-yes (turning (d .state)) (not (any (liveWord d))) turns .1
 
     pub shows-running : T (words .isRunning (words .state (answer number at d)))
-    unfolding answer
+    unfolding answerTelling
     shows-running = runs
 
     pub shows-turning : T (words .turns (answer number at d))
-    unfolding answer
+    unfolding answerTelling
     shows-turning = rw (gates-by (d .state) (liveWord d)) (yes-and (not (any (liveWord d))) (turning (d .state)) dark runs)

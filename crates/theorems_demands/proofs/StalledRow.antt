@@ -16,13 +16,14 @@ use Rattle.fields.specs.declared.Cycle.{Cycle}
 use Rattle.fields.specs.declared.Tick.{Tick}
 use Rattle.verdicts.specs.Table.{verdict}
 use Rattle.faults.specs.Word.{bit}
-use Rattle.drive.specs.Answer.{answer, reply as replied}
+use Rattle.drive.specs.Answer.{answer, answerTelling, reply as replied}
 use Rattle.drive.specs.Refusals.{tickRows}
-use Rattle.drive.specs.Calls.{cycled}
+use Rattle.drive.specs.Calls.{judgedBy, cycled}
 use Rattle.drive.specs.Blocks.{marked}
 use Rattle.drive.specs.Ticks.{ticked}
 use Rattle.drive.specs.AnyCall.{Call, loads, cycles, ticks, blockLoads, reply}
 use Rattle.drive.specs.declared.Drive.{Drive}
+use Rattle.drive.specs.declared.answer.Judged.the-variants.{Nothing}
 use Rattle.drive.specs.declared.answer.Reply.{Reply}
 use Rattle.drive.proofs.EachCall.{each-call}
 use Rattle.theorems_history.specs.Log.{stateAfter, log}
@@ -58,21 +59,21 @@ module _ (d : Drive) (running : T (is 4 (d .state))) where
       → eqb number 0 ≡ false
       → T (not (isTick words (heard words (made call (answer number at left)))))
       → (heard words (made call (answer number at left)) ≡ neither) × T (is 4 (left .state))
-  unfolding answer
+  unfolding answerTelling
   refused call left number at still given none = (rw given, still)
 
   cycle-passes :
       (c : Cycle)
-      → T (not (isTick words (heard words (made (cycles c) (answer 0 0 (cycled d c))))))
-      → (heard words (made (cycles c) (answer 0 0 (cycled d c))) ≡ neither) × T (is 4 (cycled d c .state))
-  unfolding answer cycled
+      → T (not (isTick words (heard words (made (cycles c) (answerTelling (judgedBy d c) 0 0 (cycled d c))))))
+      → (heard words (made (cycles c) (answerTelling (judgedBy d c) 0 0 (cycled d c))) ≡ neither) × T (is 4 (cycled d c .state))
+  unfolding answerTelling cycled
   cycle-passes c none = (refl, running)
 
   tick-passes :
       (t : Tick)
       → T (not (isTick words (heard words (made (ticks t) (answer 0 0 (ticked d t))))))
       → (heard words (made (ticks t) (answer 0 0 (ticked d t))) ≡ neither) × T (is 4 (ticked d t .state))
-  unfolding answer
+  unfolding answerTelling
   tick-passes t none = absurd none
 
   passes : (call : Call) → Passes call (reply d call)
@@ -181,7 +182,7 @@ module _ (earlier : List Call) (runs : T (inMotorRun (log machine earlier))) whe
       replies = accepted d t (with-torque d t (holds free .0) slack-unrefused)
 
       accepts : answered past t .number ≡ 0
-      unfolding answer
+      unfolding answerTelling
       accepts = ap (λ (r : Reply). r .answer .number) replies
 
       -- without its torque both answer alike
@@ -192,7 +193,7 @@ module _ (earlier : List Call) (runs : T (inMotorRun (log machine earlier))) whe
       slack-alike =
           let unset : (seven.lock d (slack t) && bit 7 (FaultEnable (d .settings))) ≡ false = rw (seven.unlocked d t loaded) in
           ap (λ (r : Reply). r .answer) (accepted d (slack t) slack-unrefused)
-          ∙ shown-alike (ticked d (slack t)) (ticked other (slack t)) (ticked-alike d other (going .alike) (slack t) loaded unset) 0 0
+          ∙ shown-alike (ticked d (slack t)) (ticked other (slack t)) (ticked-alike d other (going .alike) (slack t) loaded unset) Nothing 0 0
           ∙ sym (ap (λ (r : Reply). r .answer) other-replies)
 
       stalling : T (stalls (numbersOf (log machine past)) t)

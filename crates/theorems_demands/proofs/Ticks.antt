@@ -18,7 +18,7 @@ use Rattle.faults.specs.Word.{any}
 use Rattle.faults.proofs.Bits.{old-stays}
 use Rattle.drive.specs.Flags.{alwaysLive}
 use Rattle.drive.specs.Command.{low, high}
-use Rattle.drive.specs.Answer.{liveWord, answer}
+use Rattle.drive.specs.Answer.{liveWord, answer, answerTelling}
 use Rattle.drive.specs.Calls.{becomes}
 use Rattle.drive.specs.Ticks.{watch, standing, raised, alight, armedBy, nth, grounds, chosen, moved, ticked}
 use Rattle.drive.specs.AnyCall.{ticks}
@@ -79,7 +79,7 @@ module _ (d : Drive) (t : Tick) (waited : ℕ) where
       → T (not (noteOf state after .began && not (noteOf state after .started)))
       → T (inside after .turning)
       → T (not (endsStart (noteOf state after)))
-  unfolding answer
+  unfolding answerTelling
   goes-on-by state after no-low no-new turns =
       let runs = shows-running 0 0 after turns in
       let drives = shows-turning 0 0 after turns in
@@ -114,7 +114,7 @@ module _ (d : Drive) (t : Tick) (waited : ℕ) where
         passes :
             (T (inside after .turning) → T (not (endsStart (noteOf state after)) && inside (at state) .turning))
             → Obeys state after
-        unfolding answer
+        unfolding answerTelling
         passes turning =
             Steps.passes-by (inside (at state)) (noteOf state after) (inside after) (gates-ask 0 0 after) (rw same used-few)
             (fault-shown 0 0 after)
@@ -134,7 +134,7 @@ module _ (d : Drive) (t : Tick) (waited : ℕ) where
 
     -- a tick that stays
     stays : (state : State) → T (not (is 0 state)) → (T (turning state) → T (not (low settings t))) → Obeys state (next state Stay)
-    unfolding answer
+    unfolding answerTelling
     stays state loaded quiet =
         let after = next state Stay in
         passes state after refl refl
@@ -159,7 +159,7 @@ module _ (d : Drive) (t : Tick) (waited : ℕ) where
         → (T (high settings t) → T (not (low settings t)))
         → Way (on state) state move
         → Obeys state (next state move)
-    unfolding answer
+    unfolding answerTelling
     by-move state Stay loaded fault late trip apart (waits lacks no-low calm) = stays state loaded (λ runs. no-low)
     by-move state Stay loaded fault late trip apart (unmoved stands calm) = stays state loaded (never (turning state) stands)
     by-move state (Enter Fault) loaded fault late trip apart (trips free tripping) =

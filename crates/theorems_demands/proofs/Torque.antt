@@ -12,7 +12,7 @@ use Rattle.fields.specs.declared.Tick.{Tick}
 use Rattle.verdicts.specs.Table.{Row, row, verdict}
 use Rattle.verdicts.specs.declared.Verdict.{Verdict}
 use Rattle.verdicts.proofs.Passed.{Passed, passed, none-holds}
-use Rattle.drive.specs.Answer.{answer, reply as replied}
+use Rattle.drive.specs.Answer.{answerTelling, reply as replied}
 use Rattle.drive.specs.Refusals.{tickRows}
 use Rattle.drive.specs.Calls.{settle}
 use Rattle.drive.specs.Ticks.{ticked}
@@ -33,7 +33,7 @@ passed-with [] r other behind p fails = (fails, p .1)
 passed-with (q ∷ before) r other behind p fails = (p .0, passed-with before r other behind (p .1) fails)
 
 accepted-by : (v : Verdict) (next left : Drive) → settle v next left .answer .number ≡ 0 → v .number ≡ 0
-unfolding answer
+unfolding answerTelling
 accepted-by v next left =
     settles (λ (r : Reply). r .answer .number ≡ 0 → v .number ≡ 0) v next left (λ none e. none) (λ given e. e)
 

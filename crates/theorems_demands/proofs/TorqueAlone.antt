@@ -15,9 +15,10 @@ use Rattle.moves.specs.Moves.{moveOf}
 use Rattle.moves.specs.declared.Move.{Move}
 use Rattle.moves.specs.declared.Move.the-variants.{Stay, Enter, Measure, Clear, Retry}
 use Rattle.drive.specs.Flags.{alwaysLive, alive}
-use Rattle.drive.specs.Answer.{answer}
+use Rattle.drive.specs.Answer.{answerTelling}
 use Rattle.drive.specs.Ticks.{watch, standing, raised, armedBy, nth, grounds, chosen, moved, ticked}
 use Rattle.drive.specs.declared.Drive.{Drive}
+use Rattle.drive.specs.declared.answer.Judged.{Judged}
 use Rattle.theorems_reached.specs.Reached.{Loaded}
 use Rattle.theorems_demands.specs.Stalled.{slack}
 use Rattle.theorems_demands.proofs.FlagSeven as seven
@@ -39,9 +40,9 @@ module _ (d other : Drive) (a : Alike d other) where
       (live-flag alwaysLive (FaultEnable (d .settings)) 7 (a .set) ∙ ap (flag 7) none)
       ∙ or-zero-r (alive (d .settings) (a .flags or more))
 
-  pub shown-alike : (number place : ℕ) → answer number place d ≡ answer number place other
-  unfolding answer
-  shown-alike number place =
+  pub shown-alike : (judged : Judged) (number place : ℕ) → answerTelling judged number place d ≡ answerTelling judged number place other
+  unfolding answerTelling
+  shown-alike judged number place =
       let live : alive (d .settings) (d .flags) ≡ alive (d .settings) (a .flags) =
       ap (alive (d .settings)) (sym (or-zero-r (d .flags))) ∙ live-with 0 ∙ ap (alive (d .settings)) (or-zero-r (a .flags))
       in

@@ -18,9 +18,9 @@ use Rattle.verdicts.specs.declared.Verdict.{Verdict}
 use Rattle.verdicts.proofs.Passed.{passed}
 use Rattle.images.specs.Image.{fifteen}
 use Rattle.images.specs.Reads.{isRead}
-use Rattle.drive.specs.Answer.{answer, reply as replied}
+use Rattle.drive.specs.Answer.{answerTelling, replyTelling, reply as replied}
 use Rattle.drive.specs.Refusals.{loadRows, cycleRows, tickRows}
-use Rattle.drive.specs.Calls.{settle, loaded, cycled}
+use Rattle.drive.specs.Calls.{settleTelling, loaded, judgedBy, cycled}
 use Rattle.drive.specs.Calls
 use Rattle.drive.specs.Blocks.{blockNumbers, blockRows, marked, leftByBlock}
 use Rattle.drive.specs.Blocks
@@ -28,6 +28,8 @@ use Rattle.drive.specs.Ticks.{ticked}
 use Rattle.drive.specs.Ticks as TickCalls
 use Rattle.drive.specs.AnyCall.{Call, loads, cycles, ticks, blockLoads, reply}
 use Rattle.drive.specs.declared.Drive.{Drive}
+use Rattle.drive.specs.declared.answer.Judged.{Judged}
+use Rattle.drive.specs.declared.answer.Judged.the-variants.{Nothing}
 use Rattle.drive.specs.declared.answer.Reply.{Reply}
 use Rattle.theorems_history.specs.Log.{stateAfter, entry, log}
 use Rattle.theorems_reached.specs.Machine.{machine}
@@ -49,18 +51,18 @@ pub record Same (r other : Reply) : Type 0 where
   pub answers : r .answer ≡ other .answer
 
 settle-same :
-    (v : Verdict) (next left next′ left′ : Drive)
+    (judged : Judged) (v : Verdict) (next left next′ left′ : Drive)
     → (v .number ≡ 0 → Alike next next′)
     → Alike left left′
-    → Same (settle v next left) (settle v next′ left′)
-settle-same v next left next′ left′ goes stays = go (eqb (v .number) 0) refl
+    → Same (settleTelling judged v next left) (settleTelling judged v next′ left′)
+settle-same judged v next left next′ left′ goes stays = go (eqb (v .number) 0) refl
   where
     go : (test : Bool) → eqb (v .number) 0 ≡ test
-        → Same (cond test (replied 0 0 next) (replied (v .number) (v .place) left))
-        (cond test (replied 0 0 next′) (replied (v .number) (v .place) left′))
+        → Same (cond test (replyTelling judged 0 0 next) (replied (v .number) (v .place) left))
+        (cond test (replyTelling judged 0 0 next′) (replied (v .number) (v .place) left′))
     go true e =
-        let alike = goes (eqb-yes (rw e tt)) in record { leaves = alike; answers = shown-alike next next′ alike 0 0 }
-    go false e = record { leaves = stays; answers = shown-alike left left′ stays (v .number) (v .place) }
+        let alike = goes (eqb-yes (rw e tt)) in record { leaves = alike; answers = shown-alike next next′ alike judged 0 0 }
+    go false e = record { leaves = stays; answers = shown-alike left left′ stays Nothing (v .number) (v .place) }
 
 module _ (d other : Drive) (a : Alike d other) where
   left-alike : (image : List ℕ) (block : ℕ) → Alike (leftByBlock d image block) (leftByBlock other image block)
@@ -99,18 +101,18 @@ module _ (d other : Drive) (a : Alike d other) where
   unfolding Calls.load Calls.cycle TickCalls.tick Blocks.blockLoad
   replies-same (loads numbers) may unset =
       rw (ap (λ (drive : Drive). verdict (loadRows drive numbers)) (a .same))
-      (settle-same (verdict (loadRows d numbers)) _ d _ other (λ none. itself (loaded (meant numbers))) a)
+      (settle-same Nothing (verdict (loadRows d numbers)) _ d _ other (λ none. itself (loaded (meant numbers))) a)
   replies-same (cycles c) may unset =
-      rw (ap (λ (drive : Drive). verdict (cycleRows drive c)) (a .same))
-      (settle-same (verdict (cycleRows d c)) (cycled d c) d (cycled other c) other (λ none. cycled-alike d other a c) a)
+      rw (ap (λ (drive : Drive). verdict (cycleRows drive c)) (a .same), ap (λ (drive : Drive). judgedBy drive c) (a .same))
+      (settle-same (judgedBy d c) (verdict (cycleRows d c)) (cycled d c) d (cycled other c) other (λ none. cycled-alike d other a c) a)
   replies-same (ticks t) may unset =
       rw (tick-rows t may)
-      (settle-same (verdict (tickRows d t)) (ticked d t) d (ticked other (slack t)) other
+      (settle-same Nothing (verdict (tickRows d t)) (ticked d t) d (ticked other (slack t)) other
       (λ none. let (loaded, dark) = unset none in ticked-alike d other a t loaded dark)
       a)
   replies-same (blockLoads image block) may unset =
       rw (ap (λ (drive : Drive). verdict (blockRows drive image block)) (a .same))
-      (settle-same (verdict (blockRows d image block)) _ (leftByBlock d image block) _ (leftByBlock other image block)
+      (settle-same Nothing (verdict (blockRows d image block)) _ (leftByBlock d image block) _ (leftByBlock other image block)
       (λ none. itself (loaded (meant (blockNumbers image block))))
       (left-alike image block))
 
@@ -121,7 +123,7 @@ unset-by-the-log :
     (past : List Call) (call : Call)
     → T (not (sets7 (entry machine (stateAfter machine past) call) (log machine past)))
     → Unset (stateAfter machine past) (stateAfter machine past) (itself (stateAfter machine past)) call
-unfolding stalledFor answer
+unfolding stalledFor answerTelling
 unset-by-the-log past (loads numbers) none = tt
 unset-by-the-log past (cycles c) none = tt
 unset-by-the-log past (ticks t) none = λ unrefused.

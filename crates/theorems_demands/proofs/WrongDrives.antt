@@ -120,6 +120,7 @@ showing gate r =
             angle = a .angle;
             offsets = a .offsets;
             retries = a .retries;
+            judged = a .judged;
           };
     }
 

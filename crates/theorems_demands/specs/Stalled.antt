@@ -17,6 +17,7 @@ use Rattle.theorems_history.specs.Log.{Entry, stateAfter, entry, log}
 use Rattle.theorems_history.specs.Onlooker.{Asked, load, tick, neither, heard, isLoad, isTick, memoryOf}
 use Rattle.drive.specs.AnyCall.{Call, loads, cycles, ticks, blockLoads}
 use Rattle.drive.specs.declared.answer.Answer.{Answer}
+use Rattle.drive.specs.declared.answer.Judged.the-variants.{Nothing}
 use Rattle.theorems_reached.specs.Machine.{machine}
 use Rattle.onlooker.specs.Words.{words, setting, enabled, lowOf}
 
@@ -115,6 +116,7 @@ trippedBy7 a =
       angle = a .angle;
       offsets = a .offsets;
       retries = a .retries;
+      judged = Nothing;
     }
 
 module _ (earlier : List Call) (t : Tick) where

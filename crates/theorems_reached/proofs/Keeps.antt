@@ -21,6 +21,7 @@ use Rattle.drive.specs.Refusals.{highestPattern, loadRows, cycleRows, tickRows}
 use Rattle.drive.specs.Flags.{alwaysLive}
 use Rattle.drive.specs.Causes.{causeBits}
 use Rattle.drive.specs.Calls as Calls
+use Rattle.drive.specs.declared.answer.Judged.the-variants.{Nothing}
 use Rattle.drive.specs.Calls.{powerUp, fresh, loaded, sample, cycled}
 use Rattle.images.specs.Image.{fifteen}
 use Rattle.images.specs.Reads.{readRows, isRead}
@@ -113,7 +114,7 @@ reached-marked =
 pub load-keeps : (d : Drive) (numbers : List ℕ) → Reached d → Reached (Calls.load d numbers .drive)
 unfolding Calls.load
 load-keeps d numbers r =
-    settled Reached (verdict (loadRows d numbers)) (loaded (meant numbers)) d
+    settled Reached Nothing (verdict (loadRows d numbers)) (loaded (meant numbers)) d
     (λ e. fresh-reached Stop _ _ tt (λ t. absurd t) (λ t. accepted-settings d numbers e))
     r
 
@@ -130,7 +131,7 @@ left-reached d image block r =
 pub block-load-keeps : (d : Drive) (image : List ℕ) (block : ℕ) → Reached d → Reached (Blocks.blockLoad d image block .drive)
 unfolding Blocks.blockLoad
 block-load-keeps d image block r =
-    settled Reached (verdict (blockRows d image block)) (loaded (meant (blockNumbers image block))) (leftByBlock d image block)
+    settled Reached Nothing (verdict (blockRows d image block)) (loaded (meant (blockNumbers image block))) (leftByBlock d image block)
     (λ e.
     let own = both-passed (readRows fifteen image block) (loadRows d (blockNumbers image block)) tt e .1 in
     fresh-reached Stop _ _ tt (λ t. absurd t) (λ t. accepted-settings d (blockNumbers image block) own))
@@ -171,7 +172,7 @@ cycled-reached d c r outside pattern first second =
 pub cycle-keeps : (d : Drive) (c : Cycle) → Reached d → Reached (Calls.cycle d c .drive)
 unfolding Calls.cycle
 cycle-keeps d c r =
-    settled Reached (verdict (cycleRows d c)) (cycled d c) d
+    settled Reached (Calls.judgedBy d c) (verdict (cycleRows d c)) (cycled d c) d
     (λ e.
     let p = passed (cycleRows d c) tt e in
     cycled-reached d c r (p .0) (ltb-no (p .1 .0)) (ltb-no (p .1 .1 .0)) (ltb-no (p .1 .1 .1 .0)))
@@ -180,7 +181,7 @@ cycle-keeps d c r =
 pub tick-keeps : (d : Drive) (t : Tick) → Reached d → Reached (Ticks.tick d t .drive)
 unfolding Ticks.tick
 tick-keeps d t r =
-    settled Reached (verdict (tickRows d t)) (ticked d t) d
+    settled Reached Nothing (verdict (tickRows d t)) (ticked d t) d
     (λ e.
     let p = passed (tickRows d t) tt e in
     let fields = p .1 .1 .1 .1 .1 .1 .1 .1 .1 .1 in

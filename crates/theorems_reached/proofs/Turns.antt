@@ -30,9 +30,9 @@ use Rattle.settings.specs.Settings.{settingCount, allSettings, meant, HallAngle
 use Rattle.settings.proofs.Meant.{meant-of-24, meant-of-others, length-meant}
 use Rattle.states.specs.States.{is}
 use Rattle.verdicts.specs.Table.{verdict}
-use Rattle.drive.specs.Answer.{answer, reply}
+use Rattle.drive.specs.Answer.{answer, answerTelling, replyTelling}
 use Rattle.drive.specs.Refusals.{highestPattern, loadRows}
-use Rattle.drive.specs.Calls.{chosen, loaded, load, cycled, cycle}
+use Rattle.drive.specs.Calls.{chosen, loaded, load, judgedBy, cycled, cycle}
 use Rattle.drive.specs.declared.Drive.{Drive}
 use Rattle.drive.specs.declared.answer.Reply.{Reply}
 use Rattle.drive.proofs.Settles.{settles}
@@ -42,7 +42,7 @@ use Rattle.theorems_reached.specs.Turns.{named, shows, turning, TurnAnsw
 -- an accepted load leaves what its numbers mean
 loaded-by : (d : Drive) (numbers : List ℕ) → load d numbers .answer .number ≡ 0
     → (verdict (loadRows d numbers) .number ≡ 0) × (load d numbers .drive ≡ loaded (meant numbers))
-unfolding load answer
+unfolding load answerTelling
 loaded-by d numbers =
     settles
     (λ (r : Reply).
@@ -84,7 +84,7 @@ taken Two = one-of (λ p. p ≤ 3) (two .order) (omega arith, (omega arith, (ome
 module _ (first second : ℕ) (first-small : first ≤ 4095) (second-small : second ≤ 4095) where
   -- a cycle outside IDLE that shows a pattern of the layout is accepted
   accepts : (d : Drive) (p : ℕ) → T (not (is 0 (d .state))) → T (among (layout (d .sensors) .order) p)
-      → cycle d (shows first second p) ≡ reply 0 0 (cycled d (shows first second p))
+      → cycle d (shows first second p) ≡ replyTelling (judgedBy d (shows first second p)) 0 0 (cycled d (shows first second p))
   unfolding cycle
   accepts d p outside stands =
       rw (
@@ -109,7 +109,7 @@ module _ (first second : ℕ) (first-small : first ≤ 4095) (second-small : sec
       → d .hall .kept ≡ Pattern p
       → Shown (turning first second (d .sensors) way n d (onward (layout (d .sensors)) way p))
       (walked (d .sensors) way (suc n) (d .hall) p (offset d))
-  unfolding Shown answer cycled
+  unfolding Shown answerTelling cycled
   goes-on way zero d p outside stands kept =
       rw (accepts d (onward (layout (d .sensors)) way p) outside (round (d .sensors) way p stands .stands)) (refl, refl, refl)
   goes-on way (suc n) d p outside stands kept =

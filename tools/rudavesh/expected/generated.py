@@ -1,8 +1,9 @@
 """What the program generated reads and must print: records by the model's generator, and their lines by the independent model.
 
 The seed is one whose 3,000 records reach each of the ten states and every flag but 14, which takes 4,096 cycles without a step, and 12,
-which takes a block load, and with two Hall sensors the nine states that a loaded drive has, and flag 15. A changed rule may change what the
-generator draws: where the seed no longer serves, the first one that does is told."""
+which takes a block load, and each letter of a Hall sample; and with two Hall sensors the nine states that a loaded drive has, flag 15, and
+each letter but the dead one's. A changed rule may change what the generator draws: where the seed no longer serves, the first one that does
+is told."""
 
 import re
 from itertools import count
@@ -36,22 +37,23 @@ def with_two_sensors(records: bytes, shown: List[line_form.Report]) -> Iterator[
             yield report
 
 
-def missing(shown: List[line_form.Report], states: Set[str], flags: Set[int]) -> List[str]:
-    """Those of some states and flags that no report shows."""
+def missing(shown: List[line_form.Report], states: Set[str], flags: Set[int], fates: Set[str]) -> List[str]:
+    """Those of some states, flags and letters that no report shows."""
     states = states - {report.state for report in shown}
     flags = {bit for bit in flags if not any(report.live >> bit & 1 for report in shown)}
-    return sorted(states) + [f"flag {bit}" for bit in sorted(flags)]
+    fates = fates - {report.fate for report in shown}
+    return sorted(states) + [f"flag {bit}" for bit in sorted(flags)] + [f"letter {fate}" for fate in sorted(fates)]
 
 
 def lacks(records: bytes) -> Optional[str]:
-    """Why these records do not serve, if they do not: too many bytes for the program, or a state or flag that they do not show."""
+    """Why these records do not serve, if they do not: too many bytes for the program, or a state, flag or letter that they do not show."""
     if len(records) > room():
         return f"{len(records)} bytes of records, and the program reads {room()}"
     shown = [report for report in map(line_form.read, model.lines(records).decode().splitlines()) if report]
-    lacking = missing(shown, set(line_form.STATES), set(line_form.BITS) - TOO_SLOW - NOT_HERE)
+    lacking = missing(shown, set(line_form.STATES), set(line_form.BITS) - TOO_SLOW - NOT_HERE, set(line_form.FATES))
     if lacking:
         return f"no line shows {', '.join(lacking)}"
-    lacking = missing(list(with_two_sensors(records, shown)), set(line_form.STATES) - {"IDLE"}, {15})
+    lacking = missing(list(with_two_sensors(records, shown)), set(line_form.STATES) - {"IDLE"}, {15}, set(line_form.FATES) - {"D"})
     return f"no line shows {', '.join(lacking)} with two Hall sensors" if lacking else None
 
 

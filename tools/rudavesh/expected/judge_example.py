@@ -1,11 +1,11 @@
 """What the program judge reads and must print: the records and lines of shiftline's stored run, worked out from document 01, as a board
-would print them that is wrong twice. At record 4 it shows another position, which demand 3 does not speak of; at record 6 it drives in
+would print them that is wrong twice. Up to record 6 the lines are those of a board before M-105, without a letter. At record 4 it shows another position, which demand 3 does not speak of; at record 6 it drives in
 FAULT, under a live flag. From record 7 on it is right again, and the unknown record ends the run."""
 
 from . import Files
-from .shiftline_example import ENDING, INPUT, OUTPUT, PUMPED, SMALL_PUMP, TURNED, TURNING, UNKNOWN
+from .shiftline_example import EARLIER_OUTPUT, ENDING, INPUT, OUTPUT, PUMPED, SMALL_PUMP, TURNED, TURNING, UNKNOWN
 
-RIGHT = OUTPUT.splitlines(keepends=True)
+RIGHT = EARLIER_OUTPUT.splitlines(keepends=True)
 POSITION, GATE = 3, 5  # records 4 and 6, from 0
 MOVED = RIGHT[POSITION].replace(" 00000001 ", " 00000002 ")
 DRIVING = RIGHT[GATE].replace(" 0 0004 ", " 2 0004 ")

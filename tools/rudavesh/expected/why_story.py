@@ -58,11 +58,13 @@ def told() -> Story:
     retry = story.tick("FAULT left: timed retry 1 of 2; no live cause stood")
     start(story, f"start: permitted by the timed retry at record {retry}; no low was held since the trip")
 
-    # two dead samples shut the gates, the next tick trips; a low in FAULT permits nothing after it
+    # two dead samples shut the gates, the next tick trips, and a sample that comes before it changes nothing of the reason; a low in FAULT
+    # permits nothing after it
+    story.cycle(0, "dead Hall sample 1: pattern 0")
+    dead = story.cycle(7, "live: two dead Hall samples, last pattern 7 (bit 15)")
     story.cycle(0)
-    dead = story.cycle(7, "live: two dead Hall samples (bit 15)")
-    story.tick(f"trip by record {dead}: two dead Hall samples (bit 15)")
-    story.cycle(1)
+    story.tick(f"trip by record {dead}: two dead Hall samples, last pattern 7 (bit 15)")
+    story.cycle(1, "Hall samples since the load: 3 dead, 0 stray")
     low = story.low()
     for _ in range(HELD - 2):
         story.tick()
@@ -72,26 +74,45 @@ def told() -> Story:
     story.tick(f"start: permitted by the low command at record {low}")
 
     # three strays: 6 is neither before nor after 1
+    story.cycle(6, "stray Hall sample 1: pattern 6")
     story.cycle(6)
-    story.cycle(6)
-    stray = story.cycle(6, "live: three stray Hall samples (bit 15)")
+    stray = story.cycle(4, "live: three stray Hall samples, last pattern 4 (bit 15)")
     story.tick(
-        f"trip by record {stray}: three stray Hall samples (bit 15)",
-        "live: gate kill is 1 (bit 0), three stray Hall samples (bit 15)",
+        f"trip by record {stray}: three stray Hall samples, last pattern 4 (bit 15)",
+        "live: gate kill is 1 (bit 0), three stray Hall samples, last pattern 4 (bit 15)",
         gate_kill=1,
     )
     story.tick("FAULT left: clear", clear=1)
+    loose_plug(story)
     story.tick("trip: VdcRaw above CriticalOvLevel (bit 1)", "gates: all low sides on", VdcRaw=3600)
     story.load("load refused: number 4, place 0: outside IDLE and STOP: stop or clear first")
     story.tick("FAULT left: clear", "gates: off", clear=1)
 
     story.tick("tick refused: number 1, place 3: command is 0..1", command=2)
     story.cycle(8, "cycle refused: number 1, place 1: pattern is 0..7")
-    story.load("loaded: mode 1, 1 retry allowed", ControlMode=1, RetryLimit=1)
+    story.load("Hall samples since the load: 6 dead, 6 stray", "loaded: mode 1, 1 retry allowed", ControlMode=1, RetryLimit=1)
     story.load("loaded: mode 0, no timed retries")
     small_pump(story)
     cold_start(story)
     return story
+
+
+def loose_plug(story: Story) -> None:
+    """A plug that shakes: M-105. A sample by itself is told with its number since the load; of several in a row the first is, and how many
+    there were when they are over. Ticks and a refused cycle between them are no samples. The pattern was forgotten, so that 1 is the first."""
+    story.cycle(1, "Hall samples since the load: 3 dead, 3 stray")
+    story.cycle(7, "dead Hall sample 4: pattern 7")
+    story.cycle(1)
+    story.cycle(4, "stray Hall sample 4: pattern 4")
+    story.tick()
+    story.cycle(8, "cycle refused: number 1, place 1: pattern is 0..7")
+    story.cycle(7)
+    story.cycle(2)
+    story.cycle(1, "Hall samples since the load: 5 dead, 5 stray")
+    story.cycle(3)
+    story.cycle(5, "stray Hall sample 6: pattern 5")
+    story.cycle(0)
+    story.cycle(3, "Hall samples since the load: 6 dead, 6 stray")
 
 
 def small_pump(story: Story) -> None:
@@ -104,13 +125,18 @@ def small_pump(story: Story) -> None:
     for pattern in (0, 0, 1, 3):
         story.cycle(pattern)
     # three strays: 0 is opposite 3; no cause stands, and the clear works at once
+    story.cycle(0, "stray Hall sample 1: pattern 0")
     story.cycle(0)
-    story.cycle(0)
-    stray = story.cycle(0, "live: three stray Hall samples (bit 15)")
-    story.tick(f"trip by record {stray}: three stray Hall samples (bit 15)")
+    stray = story.cycle(0, "live: three stray Hall samples, last pattern 0 (bit 15)")
+    story.tick(f"trip by record {stray}: three stray Hall samples, last pattern 0 (bit 15)")
     story.tick("FAULT left: clear", clear=1)
     # 24 numbers mean three sensors: said, since there were two, and 4 is a pattern again; after that three are not said any more
-    story.load("loaded: mode 1, 2 retries allowed", "loaded: motor with three Hall sensors again", ControlMode=1)
+    story.load(
+        "Hall samples since the load: 0 dead, 3 stray",
+        "loaded: mode 1, 2 retries allowed",
+        "loaded: motor with three Hall sensors again",
+        ControlMode=1,
+    )
     story.cycle(4)
     story.load("loaded: mode 0, no timed retries", sensors=3)
     story.cycle(8, "cycle refused: number 1, place 1: pattern is 0..7")
@@ -149,8 +175,9 @@ def start(story: Story, sentence: str) -> None:
 
 def files() -> Files:
     story = told()
-    # no record is called X; what stands behind it is not read
-    end = f"record {len(story.records) + 1:<5}  refused: number 6, place 0: unknown or short record; the run ends"
+    # at the end what was not told yet of the samples is; no record is called X, and what stands behind it is not read
+    last = story.cycle(7, "dead Hall sample 1: pattern 7", "Hall samples since the load: 1 dead, 0 stray")
+    end = f"record {last + 1:<5}  refused: number 6, place 0: unknown or short record; the run ends"
     unknown = b"X" + TICK.packed(*TICK.defaults)
     printed = "".join(sentence + "\n" for sentence in story.sentences + [end])
     return {"stdin": b"".join(story.records) + unknown, "stdout": printed.encode("ascii")}

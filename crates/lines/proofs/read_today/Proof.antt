@@ -1,4 +1,4 @@
--- `read` tests what its definition tests: the length, whether the answer has a line, and whether the line is this one.
+-- `read_today` tests what its definition tests: the length, whether the answer has a line, and whether the line is this one.
 use mathlib.Core.Path.{_≡_, ap, sym, _∙_}
 use mathlib.Core.Bool.{false}
 use mathlib.Core.List.{List, append-nil}
@@ -17,8 +17,8 @@ use Rattle.report.proofs.Fields.{length-line}
 use Rattle.lines.specs.Fields.{answerIn}
 use Rattle.lines.specs.Shown.{shown}
 use Rattle.lines.proofs.LineOf.{LineOf, good-where, bad-where}
-use Rattle.lines.proofs.read.Statement.{statement}
-use Rattle.lines.proofs.read.Tie as tie
+use Rattle.lines.proofs.read_today.Statement.{statement}
+use Rattle.lines.proofs.read_today.Tie as tie
 
 -- what `line` was asked and said
 module _ (c : tie.After-line) where
@@ -68,6 +68,6 @@ returns-4 c =
     in
     ap shown (shows line) ∙ sym (good-where (bytes line) is)
 
-pub read-spec : {M : Type 1} → statement M
-read-spec =
+pub read-today-spec : {M : Type 1} → statement M
+read-today-spec =
     tie.close (tie.spec returns (search needs) (search needs) (search needs) returns-2 (search needs) (search needs) returns-3 returns-4)

@@ -1,10 +1,10 @@
--- `page_of` puts the six others behind them.
+-- `page_of` puts the six others and the letter behind them.
 use mir.Syntax.{w16, w64}
 use mir.Val.{Fits, SFits}
 use mir.Facts.{toZ-ofZ}
 use borrow.Author.Needs.{needs}
 use Rattle.bench.specs.Line.{motorFront, motorLine}
-use Rattle.bench.proofs.Pages.{more-seven}
+use Rattle.bench.proofs.Pages.{more-eight}
 use Rattle.bench.proofs.line.page_of.Statement.{statement}
 use Rattle.bench.proofs.line.page_of.Tie as tie
 
@@ -20,15 +20,18 @@ start-of c = c .before .before .before .before .before .before .before .before .
 returns : tie.Need-returns
 unfolding motorLine motorFront
 returns c =
-    let second = c .before .before in
+    let retries = c .before .before in
+    let second = retries .before .before in
     let first = second .before .before in
     let angle = first .before .before in
     let position = angle .before .before in
     let reference = position .before .before in
     let front = reference .before .before in
-    let start = start-of (c .before) in
+    let start = start-of (retries .before) in
     rw (
-      c .last-field .ensures,
+      c .last-letter .ensures,
+      c .before .letter .ensures,
+      retries .field4 .ensures,
       second .field3 .ensures,
       first .field2 .ensures,
       angle .signed-field2 .ensures,
@@ -37,10 +40,10 @@ returns c =
       front .front-of .ensures,
       toZ-ofZ (fit start .0),
       toZ-ofZ (fit start .1),
-      more-seven,
+      more-eight,
     )
 
 pub page-of-spec : {M : Type 1} → statement M
 page-of-spec =
     tie.close (tie.spec (search needs) (search needs) (search needs) (search needs) (search needs) (search needs) (search needs)
-    (search needs) (search needs) (λ c. retries-fit (start-of c)) (search needs) returns)
+    (search needs) (search needs) (λ c. retries-fit (start-of c)) (search needs) (search needs) (search needs) returns)

@@ -1,13 +1,13 @@
--- `answered` shows each field of the state as its own function gives it.
+-- `telling` shows each field of the state as its own function gives it.
 use mir.Syntax.{w16, w32}
 use mir.Facts.{toZ-ofZ}
 use borrow.Author.Needs.{needs}
-use Rattle.drive.specs.Answer.{answer}
-use Rattle.drive.proofs.answer.answered.Statement.{statement}
-use Rattle.drive.proofs.answer.answered.Tie as tie
+use Rattle.drive.specs.Answer.{answerTelling}
+use Rattle.drive.proofs.answer.telling.Statement.{statement}
+use Rattle.drive.proofs.answer.telling.Tie as tie
 
 returns : tie.Need-returns
-unfolding answer
+unfolding answerTelling
 returns c =
     let drive = c .before .before .before .before .before .before .before .before .before .args .drive in
     rw (
@@ -20,5 +20,5 @@ returns c =
       c .before .before .before .before .before .alive .ensures,
     )
 
-pub answered-spec : {M : Type 1} → statement M
-answered-spec = tie.close (tie.spec (search needs) (search needs) (search needs) (search needs) returns)
+pub telling-spec : {M : Type 1} → statement M
+telling-spec = tie.close (tie.spec (search needs) (search needs) (search needs) (search needs) returns)

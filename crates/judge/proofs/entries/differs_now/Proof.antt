@@ -10,4 +10,4 @@ unfolding differsNow
 returns c = rw (same-test _ _ (c .same .result) (c .same .ensures .0) (c .same .ensures .1))
 
 pub differs-now-spec : {M : Type 1} → statement M
-differs-now-spec = tie.close (tie.spec (search needs) (search needs) returns)
+differs-now-spec = tie.close (tie.spec (search needs) (search needs) (search needs) returns)

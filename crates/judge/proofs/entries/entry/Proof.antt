@@ -18,10 +18,10 @@ use Rattle.judge.proofs.entries.entry.Tie as tie
 module _ (j : Judge) (said : Reply) (heard : Onlooker) (good : Bool) (end : ℕ) (line : List ℕ) where
   made : {expected found : List ℕ} {number : ℕ} {differs breaks : Bool} {stopped : ℕ} {o : Onlooker} {d : ℕ}
       {e f : List ℕ} {b : ℕ} {r : Rules} {n : ℕ}
-      → expected ≡ lineFor (said .answer)
+      → expected ≡ lineFor (length line) (said .answer)
       → found ≡ lineKept line
       → number ≡ numberOf j
-      → differs ≡ differsNow (j .differs) good expected line
+      → differs ≡ differsNow (j .differs) good expected found
       → breaks ≡ breaksNow (j .breaks) good (heard .rules)
       → stopped ≡ cond (eqb (length line) 0) missing unreadable
       → o ≡ cond good heard (j .onlooker)

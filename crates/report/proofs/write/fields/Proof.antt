@@ -2,13 +2,14 @@
 use Prim.Native.Nat.{_+_, _≤_}
 use native.Mathlib.Omega.{arith}
 use mathlib.Core.Path.{refl, ap, _∙_}
-use mathlib.Core.List.{[]}
+use mathlib.Core.List.{[], _∷_}
 use lib.ListN.{length}
 use lib.Seq.{length-sets}
 use mir.Syntax.{w16}
 use mir.Val.{SFits}
 use mir.Facts.{toZ-ofZ}
 use borrow.Author.Needs.{needs}
+use Rattle.drive.specs.Answer.{letter}
 use Rattle.report.specs.Text.{digits, signed}
 use Rattle.report.specs.Line.{name, line}
 use Rattle.report.proofs.Runs.{in-front, Stored, with-field}
@@ -30,24 +31,32 @@ before-position c = c .before .before .before .before
 abbrev before-angle : tie.After-put-signed2 → tie.After-put-digits4
 before-angle c = c .before .before .before .before .before
 
+abbrev before-letter : tie.After-put-letter → tie.After-put-signed2
+before-letter c = c .before .before .before .before .before
+
 abbrev start : tie.After-put-digits2 → tie.Start
 start c = let state = c .before .before .before .before .before in state .before .before .before .before .before .before .before .before
 
--- behind the gate there is room for the four fields that follow
-room : (c : tie.After-put-digits2) → c .put-digits2 .result + (5 + 7 + 9 + 7) ≤ length (c .put-digits2 .last .0)
+-- behind the gate there is room for the five fields that follow
+room : (c : tie.After-put-digits2) → c .put-digits2 .result + (5 + 7 + 9 + 7 + 2) ≤ length (c .put-digits2 .last .0)
 room c = omega arith
+
+-- and behind the angle for the last of them
+room-behind : (c : tie.After-put-signed2) → c .put-signed2 .result + 2 ≤ length (c .put-signed2 .last .0)
+room-behind c = omega (arith, room (before-live (before-reference (before-position (before-angle c)))))
 
 fit : (c : tie.Start) → SFits w16 (c .args .answer .reference) × SFits w16 (c .args .answer .angle)
 fit c = search needs
 
-abbrev entry : tie.After-put-signed2 → tie.Start
-entry c = start (before-live (before-reference (before-position (before-angle c))))
+abbrev entry : tie.After-put-letter → tie.Start
+entry c = start (before-live (before-reference (before-position (before-angle (before-letter c)))))
 
-whole : (c : tie.After-put-signed2)
-    → Stored (entry c .args .lent .now) (line (entry c .args .answer)) (c .put-signed2 .last .0) (c .put-signed2 .result)
+whole : (c : tie.After-put-letter)
+    → Stored (entry c .args .lent .now) (line (entry c .args .answer)) (c .put-letter .last .0) (c .put-letter .result)
 unfolding line
 whole c =
-    let position = before-angle c in
+    let angle = before-letter c in
+    let position = before-angle angle in
     let reference = before-position position in
     let live = before-reference reference in
     let gate = before-live live in
@@ -62,7 +71,10 @@ whole c =
     let put-reference = rw (toZ-ofZ (fit (entry c) .0)) at (reference .put-signed .ensures) in
     let to-reference = with-field (signed (answer .reference)) 32 to-live (length-signed _) put-reference in
     let to-position = with-field (digits 16 8 (answer .position)) 32 to-reference (length-digits 16 8 _) (position .put-digits4 .ensures) in
-    with-field (signed (answer .angle)) 10 to-position (length-signed _) (rw (toZ-ofZ (fit (entry c) .1)) at (c .put-signed2 .ensures))
+    let put-angle = rw (toZ-ofZ (fit (entry c) .1)) at (angle .put-signed2 .ensures) in
+    let to-angle = with-field (signed (answer .angle)) 32 to-position (length-signed _) put-angle in
+    let put-letter = rw (c .before .letter .ensures) at (c .put-letter .ensures) in
+    with-field (letter (answer .judged) ∷ []) 10 to-angle refl put-letter
 
 returns : tie.Need-returns
 returns c =
@@ -78,5 +90,7 @@ fields-spec =
     (λ c κs. omega (arith, room (before-live (c .before .before .before .before))))
     (λ c κs. let live = before-reference (c .before .before .before) in omega (arith, room (before-live live)))
     (λ c κs. let live = before-reference (before-position (c .before .before .before .before)) in omega (arith, room (before-live live)))
+    (search needs)
+    (λ c κs. omega (arith, room-behind (c .before .before .before .before)))
     (λ c. ap length (whole (c .before .before) .out) ∙ simp length-sets)
     returns)

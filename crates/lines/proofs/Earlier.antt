@@ -1,0 +1,134 @@
+-- A line of today is one already; the line of an earlier board, put into the form of today, is that of the same answer without a sample.
+use Prim.Native.Nat.{ℕ, _≤_}
+use native.Mathlib.Omega.{arith}
+use mathlib.Core.Path.{_≡_, refl, ap, sym, _∙_}
+use mathlib.Core.Bool.{Bool, true, false}
+use mathlib.Core.Logic.{_⊎_, inl, inr}
+use mathlib.Core.List.{List, [], _∷_, _++_, append-assoc}
+use lib.Dec.{T, eqb, eqb→eq}
+use lib.ListN.{length, take, drop, length-append, length-drop, take-append-drop}
+use lib.Seq.{take-at, drop-at, take-append-le, drop-append-le, length-take-le}
+use borrow.Author.Tests.{eqb-true}
+use Rattle.numbers.proofs.Tests.{by-test}
+use Rattle.drive.specs.Answer.{letter}
+use Rattle.drive.specs.declared.answer.Answer.{Answer}
+use Rattle.drive.specs.declared.answer.Judged.the-variants.{Nothing}
+use Rattle.text.specs.Text.{text}
+use Rattle.report.specs.Text.{digits, signed}
+use Rattle.report.specs.Refusals.{lineLength}
+use Rattle.report.specs.Line.{name, line}
+use Rattle.report.proofs.Digits.{length-digits}
+use Rattle.report.proofs.Fields.{length-line, length-signed, length-name}
+use Rattle.lines.specs.Fields.{part, answerIn}
+use Rattle.lines.specs.Earlier.{earlierLength, fieldsLength, earlierLine, ofToday}
+use Rattle.lines.specs.Shown.{shownBy}
+use Rattle.lines.proofs.LineOf.{good-line}
+
+of-today-else : (bytes : List ℕ) → eqb (length bytes) earlierLength ≡ false → ofToday bytes ≡ bytes
+unfolding ofToday
+of-today-else bytes e = rw e
+
+pub line-of-today : (answer : Answer) → ofToday (line answer) ≡ line answer
+unfolding ofToday
+line-of-today answer = rw length-line
+
+-- all that stands before the sample's letter, and its blank
+abbrev fields : Answer → List ℕ
+fields answer =
+    digits 16 1 (answer .number)
+    ++ text " "
+    ++ name (answer .state)
+    ++ text " "
+    ++ digits 10 1 (answer .gate)
+    ++ text " "
+    ++ digits 16 4 (answer .live)
+    ++ text " "
+    ++ signed (answer .reference)
+    ++ text " "
+    ++ digits 16 8 (answer .position)
+    ++ text " "
+    ++ signed (answer .angle)
+
+length-fields : (answer : Answer) → length (fields answer) ≡ fieldsLength
+length-fields answer = simp (length-append, length-digits, length-signed, length-name)
+
+-- a line by its letter
+line-by : (answer : Answer) → line answer ≡ fields answer ++ (text " " ++ (letter (answer .judged) ∷ []) ++ text "\n")
+unfolding line
+line-by answer = together (fields answer) (text " ") (letter (answer .judged) ∷ []) (text "\n")
+  where
+    together : (front a b c : List ℕ) → front ++ a ++ b ++ c ≡ front ++ (a ++ b ++ c)
+    together front a b c = simp append-assoc
+
+earlier-by : (answer : Answer) → earlierLine answer ≡ fields answer ++ text "\n"
+unfolding earlierLine
+earlier-by answer =
+    ap (λ (bytes : List ℕ). take fieldsLength bytes ++ text "\n") (line-by answer)
+    ∙ ap (λ (bytes : List ℕ). bytes ++ text "\n") (take-at (fields answer) _ fieldsLength (length-fields answer))
+
+-- the same answer without a sample
+abbrev pub untold : Answer → Answer
+untold answer =
+    record {
+      number = answer .number;
+      place = answer .place;
+      state = answer .state;
+      gate = answer .gate;
+      live = answer .live;
+      reference = answer .reference;
+      position = answer .position;
+      angle = answer .angle;
+      offsets = answer .offsets;
+      retries = answer .retries;
+      judged = Nothing;
+    }
+
+inserted : (front : List ℕ) → length front ≡ fieldsLength
+    → ofToday (front ++ text "\n") ≡ front ++ (text " " ++ text "." ++ text "\n")
+unfolding ofToday
+inserted front long =
+    rw (length-append, long, take-at front (text "\n") fieldsLength long, drop-at front (text "\n") fieldsLength long, append-assoc)
+
+pub earlier-of-today : (answer : Answer) → ofToday (earlierLine answer) ≡ line (untold answer)
+earlier-of-today answer =
+    ap ofToday (earlier-by answer)
+    ∙ inserted (fields answer) (length-fields answer)
+    ∙ sym (line-by (untold answer))
+
+-- what stands in front is not touched
+pub name-of-today : (bytes : List ℕ) → part 2 12 bytes ≡ part 2 12 (ofToday bytes)
+unfolding ofToday
+name-of-today bytes =
+    by-test (λ (line : List ℕ). part 2 12 bytes ≡ part 2 12 line) (eqb (length bytes) earlierLength)
+    (λ earlier. inserted (eqb→eq (length bytes) earlierLength earlier))
+    (λ _. refl)
+  where
+    front : (rest : List ℕ) → length bytes ≡ earlierLength
+        → part 2 12 (take fieldsLength bytes ++ rest) ≡ take 12 (drop 2 (take fieldsLength bytes))
+    front rest long =
+        let size : length (take fieldsLength bytes) ≡ fieldsLength = length-take-le fieldsLength bytes (omega (arith, long)) in
+        let behind : 12 ≤ length (drop 2 (take fieldsLength bytes)) = simp length-drop (omega (arith, size)) in
+        ap (take 12) (drop-append-le 2 (take fieldsLength bytes) rest (omega (arith, size)))
+        ∙ take-append-le 12 (drop 2 (take fieldsLength bytes)) rest behind
+
+    inserted : length bytes ≡ earlierLength
+        → part 2 12 bytes ≡ part 2 12 (take fieldsLength bytes ++ text " ." ++ drop fieldsLength bytes)
+    inserted long =
+        ap (part 2 12) (sym (take-append-drop fieldsLength bytes))
+        ∙ front (drop fieldsLength bytes) long
+        ∙ sym (front (text " ." ++ drop fieldsLength bytes) long)
+        ∙ ap (part 2 12) (sym (append-assoc (take fieldsLength bytes) (text " .") (drop fieldsLength bytes)))
+
+pub length-earlier : (answer : Answer) → length (earlierLine answer) ≡ earlierLength
+length-earlier answer = ap length (earlier-by answer) ∙ length-append (fields answer) (text "\n") ∙ rw (length-fields answer)
+
+-- a line that can be read is of one of the two lengths
+pub good-length : (bytes : List ℕ) → T (shownBy bytes .good) → (length bytes ≡ earlierLength) ⊎ (length bytes ≡ lineLength)
+good-length bytes good =
+    let is = good-line (ofToday bytes) good in
+    go (eqb (length bytes) earlierLength) refl (ap length (sym (is .written)) ∙ length-line (answerIn (ofToday bytes)))
+  where
+    go : (earlier : Bool) → eqb (length bytes) earlierLength ≡ earlier → length (ofToday bytes) ≡ lineLength
+        → (length bytes ≡ earlierLength) ⊎ (length bytes ≡ lineLength)
+    go true e long = inl (eqb-true (length bytes) earlierLength e)
+    go false e long = inr (rw (of-today-else bytes e) at long)

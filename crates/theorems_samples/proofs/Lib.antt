@@ -1,0 +1,3 @@
+-- The theorems about Hall samples.
+pub mod Fates
+pub mod Letters
