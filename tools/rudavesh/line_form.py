@@ -37,9 +37,11 @@ REFUSALS = {
     9: "block empty",
 }
 MOST_NUMBER = 15  # one digit
-# What became of a cycle's Hall sample: M-105. Any other line has the full stop, and a line of an earlier board tells of no sample.
+# What became of a cycle's Hall sample: M-105. Any other line has the full stop; a line of an earlier board has no letter at all.
 FATES = {"F": "first", "S": "same", "W": "forward", "B": "back", "D": "dead", "X": "stray"}
+BAD_FATES = "DX"
 NO_FATE = "."
+UNTOLD = ""
 
 
 class Report(NamedTuple):
@@ -52,7 +54,7 @@ class Report(NamedTuple):
     reference: int
     position: int
     angle: int
-    fate: str = NO_FATE
+    fate: str = UNTOLD
 
 
 class Column(NamedTuple):
@@ -106,7 +108,7 @@ FORM_OF_45_BYTES = Form(  # until M-105
 )
 FORM_OF_47_BYTES = Form(
     *FORM_OF_45_BYTES.columns,
-    Column("fate", 1, f"[{''.join(FATES)}{NO_FATE}]", str, str),
+    Column("fate", 1, f"[{''.join(FATES)}{NO_FATE}]", str, lambda fate: fate or NO_FATE),
 )
 FORMS = (FORM_OF_47_BYTES, FORM_OF_45_BYTES)
 LENGTH = FORMS[0].length

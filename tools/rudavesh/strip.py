@@ -16,7 +16,9 @@ DESCRIPTION = """Draw the report lines of `shiftline` as a strip chart, in SVG o
   ./shiftline examples/shift.txt | tools/strip > shift.svg
 
 Records go from left to right. A long run of equal lines, such as the wait in FAULT, is
-drawn short on hatched ground; its label tells how many lines it has.
+drawn short on hatched ground; its label tells how many lines it has. Lines that differ only
+in the letter of a good Hall sample count as equal; dead and stray samples have a track of
+their own. Lines of boards before M-105, which have no letter, are drawn, too.
 With --why it marks starts, stops, trips and exits from FAULT, and tells the reason of each:
 
   ./why examples/shift.txt > reasons
@@ -33,6 +35,7 @@ STATES = {name: (name, colour) for name, colour in (
     ("ANGLESENSING", "#3d9be0"), ("CATCHSPIN", "#2aa5a0"), ("BTSCHARGE", "#d99000"),
     ("OFFSETCAL", "#8b6fc9"), ("STOP", "#6b7785"), ("IDLE", "#aab3bd"))}  # fmt: skip
 GATES = {gate: (line_form.GATES[gate], colour) for gate, colour in ((3, "#7b1fa2"), (2, "#1b873f"), (1, "#d99000"), (0, "#8a94a0"))}
+SAMPLES = {"D": ("dead \u00b7 D", RED), "X": ("stray \u00b7 X", ORANGE)}
 REFUSALS = {
     number: (f"{line_form.REFUSALS.get(number, 'refused')} \u00b7 {number:X}", ORANGE)
     for number in range(1, line_form.MOST_NUMBER + 1)
@@ -62,11 +65,15 @@ def draw(runs: List[Span], title: str, width: int, longest: int, marks: Optional
         spans_of(runs, lambda report: report.live >> bit & 1),
         {1: (f"{line_form.ALL_BITS.get(bit, 'unnamed')} \u00b7 {bit}", RED)})]
     refused = rows_of(spans_of(runs, lambda report: report.number), REFUSALS)
+    samples = rows_of(spans_of(runs, lambda report: report.fate), SAMPLES)
+    if all(run.value.fate == line_form.UNTOLD for run in runs):
+        samples = [("not told by these lines", FAINT_INK, [])]
     picture.rows("State", "state", 20, rows_of(states, STATES))
     picture.rows("Gates", "gate", 18, rows_of(spans_of(runs, lambda report: report.gate), GATES))
     picture.rows("Live word", "live", 16, live)
     picture.curve("Speed reference", "reference", "#1d4ed8", [run.value.reference for run in runs])
     picture.curve("Position (counts)", "position", "#0f766e", moved)
+    picture.rows("Bad Hall samples", "sample", 16, samples)
     picture.rows("Refusals", "refusal", 16, refused)
     background = picture.background(states, longest)
     if marks is not None:
@@ -75,7 +82,9 @@ def draw(runs: List[Span], title: str, width: int, longest: int, marks: Optional
     refusals = sum(run.count for run in runs if run.value.number)
     picture.text(20, 34, title, size=20, more='font-weight="bold"')
     summary = (f"records: {sum(run.count for run in runs):,} \u00b7 trips: {trips:,} \u00b7 "
-               f"refusals: {refusals:,}")
+               f"refusals: {refusals:,}" + "".join(
+                   f" \u00b7 {line_form.FATES[fate]} samples: {sum(run.count for run in runs if run.value.fate == fate):,}"
+                   for fate in line_form.BAD_FATES if any(run.value.fate == fate for run in runs)))
     picture.text(20, 55, summary, size=13, colour=FAINT_INK)
     signs = [("url(#hatch)", f"over {longest} equal lines, drawn short"), ("#f9dcdc", "in FAULT")]
     if marks is not None:

@@ -1,6 +1,7 @@
 """Runs of equal report lines, and their place in the plot of a strip chart."""
 
 import itertools
+from functools import lru_cache
 from typing import Any, Callable, Dict, Iterable, List, NamedTuple, Tuple
 
 from . import line_form
@@ -20,20 +21,33 @@ class Span(NamedTuple):
     right: float = 0.0
 
 
+@lru_cache(maxsize=1024)
+def read_line(content: bytes) -> line_form.Report:
+    """The report of a line, as far as the chart shows it: the letter of a good sample, and the full stop between samples, it does not, so
+    that a shaft that stands, cycle after tick after cycle, stays one run."""
+    text = content.decode("ascii", errors="replace")
+    report = line_form.read(text)
+    if report is None:
+        raise ValueError(f"not a report line: {text[:60]!r}")
+    good = report.fate in line_form.FATES and report.fate not in line_form.BAD_FATES
+    return report._replace(fate=line_form.NO_FATE) if good else report
+
+
 def read_runs(lines: Iterable[bytes]) -> List[Span]:
-    """Give the runs of equal lines."""
-    runs: List[Span] = []
-    number = 1
-    for content, group in itertools.groupby(without_ends(lines)):
-        text = content.decode("ascii", errors="replace")
-        report = line_form.read(text)
-        if report is None:
-            raise ValueError(f"{number}: not a report line: {text[:60]!r}")
-        runs.append(Span(report, number, sum(1 for _ in group)))
-        number += runs[-1].count
-    if not runs:
+    """Give the runs of lines that show the same."""
+    firsts: List[Tuple[line_form.Report, int]] = []
+    number = 0
+    for number, content in enumerate(without_ends(lines), 1):
+        try:
+            report = read_line(content)
+        except ValueError as error:
+            raise ValueError(f"{number}: {error}") from error
+        if not firsts or report != firsts[-1][0]:
+            firsts.append((report, number))
+    if not firsts:
         raise ValueError("1: there is no report line")
-    return runs
+    ends = [first for _, first in firsts[1:]] + [number + 1]
+    return [Span(report, first, end - first) for (report, first), end in zip(firsts, ends)]
 
 
 def lay_out(runs: List[Span], width: float, longest: int) -> List[Span]:

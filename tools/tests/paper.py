@@ -58,6 +58,12 @@ def tick(gate_kill=0, clear=0, command=0, control=0, raw=2623, filtered=2623, te
                               temperature, flux, torque, speed, target)
 
 
-def line(number=0, state="STOP", gate=0, live=0, reference=0, position=0, angle=0) -> str:
+def earlier_line(number=0, state="STOP", gate=0, live=0, reference=0, position=0, angle=0) -> str:
+    """Document 01, "Report line and program", as a board before M-105 prints it."""
     return (f"{number:X} {state:.<12} {gate} {live:04X} {reference:+06d} "
             f"{position % 2**32:08X} {angle:+06d}\n")
+
+
+def line(number=0, state="STOP", gate=0, live=0, reference=0, position=0, angle=0, fate=".") -> str:
+    """M-105: "the report line gains a space and one letter .. before the line feed"."""
+    return earlier_line(number, state, gate, live, reference, position, angle).replace("\n", f" {fate}\n")

@@ -3,9 +3,9 @@
 import unittest
 
 from rudavesh import line_form, places, record_form, strip
-from rudavesh.expected.shiftline_example import OUTPUT
+from rudavesh.expected.shiftline_example import EARLIER_OUTPUT, OUTPUT
 
-from .paper import PAPER_LOAD, SETTINGS, TICK_FIELDS, cycle, line, load, load_with_sensors, tick
+from .paper import PAPER_LOAD, SETTINGS, TICK_FIELDS, cycle, earlier_line, line, load, load_with_sensors, tick
 
 
 class RecordForm(unittest.TestCase):
@@ -48,8 +48,9 @@ class RecordForm(unittest.TestCase):
 
 class LineForm(unittest.TestCase):
     def test_length(self):
-        self.assertEqual(line_form.LENGTH, 45)
-        self.assertEqual({len(text) for text in OUTPUT.splitlines(keepends=True)}, {45})
+        self.assertEqual(line_form.LENGTH, 47)
+        self.assertEqual({len(text) for text in OUTPUT.splitlines(keepends=True)}, {47})
+        self.assertEqual({len(text) for text in EARLIER_OUTPUT.splitlines(keepends=True)}, {45})
 
     def test_what_is_read_is_written(self):
         for text in [*OUTPUT.splitlines(keepends=True), line(15, "ANGLESENSING", 3, 0xBEEF, -32768, 0xDEADBEEF, -1)]:
@@ -57,15 +58,30 @@ class LineForm(unittest.TestCase):
 
     def test_each_column(self):
         self.assertEqual(line_form.read(line(1, "FAULT", 3, 0x8002, -5, -1, 7).rstrip("\n")),
-                         line_form.Report(1, "FAULT", 3, 0x8002, -5, 2**32 - 1, 7))  # fmt: skip
+                         line_form.Report(1, "FAULT", 3, 0x8002, -5, 2**32 - 1, 7, "."))  # fmt: skip
 
-    def test_a_line_of_another_form_beside_this_one(self):
+    def test_each_letter(self):
+        """M-105: "(F, S, W, B, D, X, or a full stop otherwise)"."""
+        for fate in "FSWBDX.":
+            self.assertEqual(line_form.read(line(fate=fate).rstrip("\n")).fate, fate)
+        for other in "fwsAE 0":
+            self.assertIsNone(line_form.read(line(fate=other).rstrip("\n")), other)
+
+    def test_a_line_of_an_earlier_board(self):
+        """It has no letter, and is written with the full stop."""
+        report = line_form.read(earlier_line(2, "FAULT", 0, 4, 5, 6, 7).rstrip("\n"))
+        self.assertEqual(report, line_form.Report(2, "FAULT", 0, 4, 5, 6, 7, line_form.UNTOLD))
+        self.assertEqual(line_form.written(report), line(2, "FAULT", 0, 4, 5, 6, 7, "."))
+        for text in (earlier_line().rstrip("\n") + " ", line()[:-2], earlier_line().rstrip("\n") + "."):
+            self.assertIsNone(line_form.read(text), text)
+
+    def test_a_line_of_another_form_beside_these(self):
         """As a later board may print it; an earlier log is still read."""
-        longer = line_form.Form(*line_form.FORM_OF_45_BYTES.columns, line_form.Column("angle2", 1, "[0-9]", int, str))
-        self.assertEqual(longer.length, 47)
-        self.assertIsNotNone(longer.pattern.fullmatch(line().rstrip("\n") + " 3"))
+        longer = line_form.Form(*line_form.FORM_OF_47_BYTES.columns, line_form.Column("mark", 1, "[01]", int, str))
+        self.assertEqual(longer.length, 49)
+        self.assertIsNotNone(longer.pattern.fullmatch(line().rstrip("\n") + " 1"))
         self.assertIsNone(longer.pattern.fullmatch(line().rstrip("\n")))
-        self.assertIsNone(line_form.read(line().rstrip("\n") + " 3"))
+        self.assertIsNone(line_form.read(line().rstrip("\n") + " 1"))
 
     def test_strip_draws_every_state_and_gate(self):
         self.assertEqual(sorted(strip.STATES), sorted(line_form.STATES))

@@ -19,12 +19,36 @@ record 2      loaded: motor with two Hall sensors
 record 69     start: permitted by the low command at record 68
 record 73     gates: drive
 record 120    cycle refused: number 1, place 1: pattern is 0..3 with two Hall sensors
-record 132    live: three stray Hall samples (bit 15)
-record 133    trip by record 132: three stray Hall samples (bit 15)
+record 130    stray Hall sample 1: pattern 2
+record 132    live: three stray Hall samples, last pattern 2 (bit 15)
+record 133    trip by record 132: three stray Hall samples, last pattern 2 (bit 15)
 record 134    FAULT left: clear
+record 135    Hall samples since the load: 0 dead, 3 stray
 record 142    start: permitted by the low command at record 141
 record 146    gates: drive
 record 165    stop: low command
+record 165    Hall samples since the load: 0 dead, 3 stray
+"""
+
+# M-105: dead and stray samples, told where a row of them begins, and counted where one of several ends, and at the end.
+LOOSE_PLUG = """\
+record 1      loaded: mode 0, no timed retries
+record 68     start: permitted by the low command at record 67
+record 72     gates: drive
+record 97     dead Hall sample 1: pattern 7
+record 102    stray Hall sample 1: pattern 4
+record 105    dead Hall sample 2: pattern 0
+record 108    dead Hall sample 3: pattern 7
+record 109    live: two dead Hall samples, last pattern 7 (bit 15)
+record 110    trip by record 109: two dead Hall samples, last pattern 7 (bit 15)
+record 192    Hall samples since the load: 44 dead, 1 stray
+record 193    FAULT left: clear
+record 195    start: permitted by the low command at record 194
+record 199    gates: drive
+record 284    stray Hall sample 2: pattern 5
+record 286    live: three stray Hall samples, last pattern 1 (bit 15)
+record 287    trip by record 286: three stray Hall samples, last pattern 1 (bit 15)
+record 287    Hall samples since the load: 44 dead, 4 stray
 """
 
 # M-103: "the range is every absolute speed up to 4095"; 10 x RotorLockTime is 500 ticks.
@@ -70,3 +94,6 @@ class Pictures(Case):
 
     def test_of_the_cold_start(self):
         self.same("cold-start", COLD_START, "A cold start: the shaft stands")
+
+    def test_of_the_loose_plug(self):
+        self.same("loose-plug", LOOSE_PLUG, "A loose Hall plug")

@@ -129,9 +129,20 @@ class Told(Example):
         # Five turns up, one down, a step over 0/1; the plug; two turns from pattern 2 on, by 2, 1, 2 and 1.
         self.assertEqual(positions, [*up, 30, 28, 27, 25, 24, 25, 27, 28, 30, 31, 33, 34, 36, 37])
 
+    def test_the_loose_plug_shows_the_letters_told_in_its_comments(self):
+        """M-105: "(F, S, W, B, D, X, or a full stop otherwise)": the letter behind the state, and every letter is told of some record."""
+        file = EXAMPLES / "loose-plug.txt"
+        lines = lines_of(self.records(file))
+        told = self.told(file.read_text(), "[A-Z]{4,}: ([FSWBDX])\\b")
+        self.assertEqual(len(lines), len(told))
+        self.assertEqual({letter for letter in told if letter}, set("FSWBDX"))
+        for number, (line, letter) in enumerate(zip(lines, told), start=1):
+            self.assertEqual(len(line), 46)
+            self.assertIn(letter, (None, line[-1]), f"record {number}: {line}")
+
     @staticmethod
-    def told(text: str) -> list:
-        """Give for each record the first word of its comment, or None."""
+    def told(text: str, pattern: str = "([A-Z]{4,})") -> list:
+        """Give for each record what its comment begins with, the first word, or None."""
         blocks = [(1, [])]
         for line in text.splitlines():
             record, _, comment = line.partition("#")
@@ -143,6 +154,6 @@ class Told(Example):
                 times, states = blocks.pop()
                 blocks[-1][1].extend(times * states)
             elif words:
-                state = re.match("[A-Z]{4,}", comment.strip())
-                blocks[-1][1].extend(count * [state and state[0]])
+                begun = re.match(pattern, comment.strip())
+                blocks[-1][1].extend(count * [begun and begun[1]])
         return blocks[0][1]

@@ -44,6 +44,16 @@ class LongRuns(Case):
         self.assertEqual(self.of_class(root, "long-run")[0].get("width"), "64.00")
         self.assertEqual(len(self.of_class(root, "long-run-label")), 1)
 
+    def test_letters_of_good_samples_do_not_break_a_run(self):
+        """A shaft that stands: a cycle, a tick, a cycle. A dead sample among them does."""
+        root = self.drawn(50 * (line(fate="S") + line()) + line(fate="D") + 30 * line(fate="S"))
+        self.assertEqual(self.hints(root, "long-run"), ["100 equal lines", "30 equal lines"])
+
+    def test_a_line_that_is_none_is_told_by_its_number(self):
+        done = run("strip", line() + line() + line(fate="Q"))
+        self.assertEqual(done.returncode, 1)
+        self.assertIn(b"<stdin>:3: not a report line", done.stderr)
+
     def test_lines_that_differ_in_the_angle_alone_are_not_equal(self):
         root = self.drawn(11 * line(angle=1) + 11 * line(angle=-1))
         self.assertEqual(self.of_class(root, "long-run"), [])

@@ -3,9 +3,9 @@
 import unittest
 
 # Document 01's own output, as it is typed there.
-from rudavesh.expected.shiftline_example import OUTPUT as PAPER
+from rudavesh.expected.shiftline_example import EARLIER_OUTPUT, OUTPUT as PAPER
 
-from .paper import line
+from .paper import earlier_line, line
 from .strip_case import LEFT, RIGHT, Case
 
 
@@ -63,8 +63,30 @@ class Tracks(Case):
             "over-voltage \u00b7 2, 1 to 2"])
         self.assertEqual(len({band.get("y") for band in self.of_class(root, "live")}), 2)
 
-    def test_nothing_live_and_nothing_refused(self):
-        self.assertEqual(self.texts(self.drawn(line())).count("none"), 2)
+    def test_nothing_live_nothing_refused_and_no_bad_sample(self):
+        self.assertEqual(self.texts(self.drawn(line())).count("none"), 3)
+
+    def test_dead_and_stray_samples_where_they_happen(self):
+        """M-105: each in a row of its own, whatever else the lines show, and counted."""
+        root = self.drawn("".join(line(fate=fate) for fate in "F.SDDX.WXB"))
+        self.assertEqual(sorted(self.hints(root, "sample")), [
+            "dead \u00b7 D, 4 to 5", "stray \u00b7 X, 6 to 6", "stray \u00b7 X, 9 to 9"])
+        self.assertEqual(len({band.get("y") for band in self.of_class(root, "sample")}), 2)
+        self.assertIn("records: 10 \u00b7 trips: 0 \u00b7 refusals: 0 \u00b7 dead samples: 2 \u00b7 stray samples: 2", self.texts(root))
+        unit = (RIGHT - LEFT) / 10
+        first = [band for band, hint in zip(self.of_class(root, "sample"), self.hints(root, "sample")) if "9 to 9" in hint]
+        self.assertAlmostEqual(float(first[0].get("x")), LEFT + 8 * unit, delta=0.02)
+
+    def test_lines_of_an_earlier_board(self):
+        """They are drawn as before, and what they do not tell is said."""
+        root = self.drawn(EARLIER_OUTPUT)
+        self.assertEqual(self.hints(root, "state"), self.hints(self.drawn(PAPER), "state"))
+        self.assertIn("not told by these lines", self.texts(root))
+        self.assertEqual(self.of_class(root, "sample"), [])
+        # a board that got its new firmware in mid-log
+        both = self.drawn(earlier_line() + line(fate="D") + earlier_line())
+        self.assertEqual(self.hints(both, "sample"), ["dead \u00b7 D, 2 to 2"])
+        self.assertNotIn("not told by these lines", self.texts(both))
 
     def test_speed_reference_goes_up_for_more(self):
         root = self.drawn("".join(line(reference=value) for value in (0, 600, -300, 300)))
