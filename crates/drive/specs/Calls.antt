@@ -83,7 +83,7 @@ becomes d state hall flags cycles ticks offsets run armed retries =
 abbrev pub settleTelling : Judged → Verdict → (next left : Drive) → Reply
 settleTelling judged v next left = cond (eqb (v .number) 0) (replyTelling judged 0 0 next) (reply (v .number) (v .place) left)
 
--- and so has a load or a tick
+-- nor has a load or a tick
 abbrev pub settle : Verdict → (next left : Drive) → Reply
 settle = settleTelling Nothing
 

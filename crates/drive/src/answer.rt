@@ -131,7 +131,7 @@ pub(crate) fn pick_drive(test: bool, yes: Drive, no: Drive) -> Drive
     if test { yes } else { no }
 }
 
-fn pick_judged(test: bool, yes: Judged, no: Judged) -> Judged
+pub(crate) fn pick_judged(test: bool, yes: Judged, no: Judged) -> Judged
     ensures { λ r. ⌜ r ≡ cond test yes no ⌝ }
 {
     if test { yes } else { no }

@@ -32,6 +32,7 @@ ghost use lib.ListN.{length, take};
 ghost use Rattle.verdicts.specs.Table.{verdict};
 ghost use Rattle.settings.specs.Settings.{settingCount, allSettings, meant};
 ghost use Rattle.drive.specs.Refusals.{highestPattern, loadRows};
+ghost use Rattle.drive.specs.declared.answer.Judged.the-variants.{Sample};
 ghost use Rattle.drive.specs.Calls.{powerUp, chosen, settle, loaded, load, sample, summed, cycledBy, cycle};
 
 // The 25 settings that 24 or 25 numbers mean.
@@ -78,6 +79,14 @@ fn highest_pattern(sensors: Sensors) -> u8
         Sensors::Three => 7,
         Sensors::Two => 3,
     }
+}
+
+// What the answer to an accepted cycle tells of its sample.
+fn named(sampled: Sampled) -> Judged
+    ensures { λ r. ⌜ r ≡ Sample (sampled .fate) ⌝ }
+{
+    let fate = sampled.fate;
+    Judged::Sample(fate)
 }
 
 impl Drive {
@@ -169,8 +178,7 @@ impl Drive {
         let sensors = self.sensors;
         let verdict = awake(state, fields.verdict(highest_pattern(sensors)));
         let sampled = self.sample(fields);
-        let fate = sampled.fate;
-        let judged = Judged::Sample(fate);
+        let judged = named(sampled);
         settle_telling(judged, verdict, self.cycled(fields, sampled), self)
     }
 }

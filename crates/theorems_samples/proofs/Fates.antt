@@ -8,6 +8,7 @@ use lib.Dec.{T, eqb, eqb→eq, eqb-refl}
 use lib.IntN.{ℤ}
 use lib.Ieee.Bits.{is-true, is-false}
 use borrow.Author.Tests.{eq-eqb, ne-eqb}
+use Rattle.numbers.specs.Count.{up}
 use Rattle.hall.specs.Layout.{Layout, three, two, layout, among, next, previous, sectorOf}
 use Rattle.hall.specs.Fate.{fate, beside}
 use Rattle.hall.specs.Sample.{sampled, after, deadSample, straySample, plus, number}
@@ -121,12 +122,26 @@ pub record Follows (hall : Hall) (m : Samples) : Type 0 where
 follows-by : (l : Layout) (hall : Hall) (m : Samples) (p : ℕ) (offset : ℤ) → Follows hall m → (f : Fate)
     → Follows (after l hall p offset f .hall) (withLetter (letterOf f) p m)
 unfolding deadSample straySample
-follows-by l hall m p offset f Dead = record { kept = rw (f .kept, f .dead); dead = rw (f .dead); stray = refl }
+follows-by l hall m p offset f Dead =
+    record {
+      kept =
+          ap (λ (n : ℕ). cond (eqb (up 2 n) 2) Nothing (m .kept)) (f .dead)
+          ∙ ap (cond (eqb (up 2 (hall .«dead_streak»)) 2) Nothing) (f .kept);
+      dead = rw (f .dead);
+      stray = refl;
+    }
 follows-by l hall m p offset f First = record { kept = refl; dead = refl; stray = refl }
 follows-by l hall m p offset f Same = record { kept = f .kept; dead = refl; stray = refl }
 follows-by l hall m p offset f Forward = record { kept = refl; dead = refl; stray = refl }
 follows-by l hall m p offset f Back = record { kept = refl; dead = refl; stray = refl }
-follows-by l hall m p offset f Stray = record { kept = rw (f .kept, f .stray); dead = refl; stray = rw (f .stray) }
+follows-by l hall m p offset f Stray =
+    record {
+      kept =
+          ap (λ (n : ℕ). cond (eqb (up 3 n) 3) Nothing (m .kept)) (f .stray)
+          ∙ ap (cond (eqb (up 3 (hall .«stray_streak»)) 3) Nothing) (f .kept);
+      dead = refl;
+      stray = rw (f .stray);
+    }
 
 -- ---- he counts what the drive counts
 

@@ -10,12 +10,14 @@ returns c =
     rw (
       c .settle-telling .ensures,
       c .before .cycled .ensures,
-      c .before .before .sample .ensures,
-      c .before .before .before .awake .ensures,
-      c .before .before .before .before .verdict .ensures,
-      c .before .before .before .before .before .highest-pattern .ensures,
+      c .before .before .named .ensures,
+      c .before .before .before .sample .ensures,
+      c .before .before .before .before .awake .ensures,
+      c .before .before .before .before .before .verdict .ensures,
+      c .before .before .before .before .before .before .highest-pattern .ensures,
     )
 
 pub cycle-spec : {M : Type 1} → statement M
 cycle-spec =
-    tie.close (tie.spec (search needs) (search needs) (search needs) (search needs) (search needs) (search needs) returns)
+    tie.close (tie.spec (search needs) (search needs) (search needs) (search needs) (search needs) (search needs) (search needs)
+    returns)
