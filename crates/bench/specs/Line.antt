@@ -36,7 +36,7 @@ motorFront answer =
 unfoldable pub refusalLine : List ℕ
 refusalLine = text "?\n"
 
--- Room for any line: nine numbers of twenty digits at most, two with a sign besides, a letter, and a byte after each. The numbers of a motor
--- are far shorter; this bound asks nothing of them.
+-- Room for any line: nine numbers of twenty digits at most, two with a sign besides, a letter, and a byte after each. The numbers of a
+-- motor are far shorter; this bound asks nothing of them.
 abbrev pub lineRoom : ℕ
 lineRoom = 9 * 21 + 2 * 22 + 2

@@ -47,8 +47,8 @@ abbrev pub letter : Judged → ℕ
 letter (Sample fate) = letterOf fate
 letter Nothing = code "."
 
--- "number, place, state, gate, live word, speed reference, position, angle, two offsets, retries used"; 02, M-105: "Cycle passes the name on
--- in its answer"
+-- "number, place, state, gate, live word, speed reference, position, angle, two offsets, retries used"; 02, M-105: "Cycle passes the name
+-- on in its answer"
 unfoldable pub answerTelling : Judged → ℕ → ℕ → Drive → Answer
 answerTelling judged number place d =
     record {

@@ -55,7 +55,8 @@ line-for size d call = rw (reply-printed d call 47 refl (omega arith), append-ni
     answer : Answer
     answer = reply d call .answer
 
-    go : (earlier : Bool) → cond earlier (shortened (line answer)) (line answer) ≡ lineKept (cond earlier (earlierLine answer) (line answer))
+    go : (earlier : Bool)
+        → cond earlier (shortened (line answer)) (line answer) ≡ lineKept (cond earlier (earlierLine answer) (line answer))
     go true = shortened-is answer
     go false = sym (kept-is (line answer) (omega (arith, length-line answer)) ∙ rw (length-line answer, append-nil))
 

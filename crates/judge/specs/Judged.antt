@@ -88,8 +88,8 @@ numberOf j = up most (j .onlooker .past .heard)
 abbrev pub kept : Rules → Bool
 kept rules = rules .gates && rules .exit && rules .retries
 
--- 02, M-105: "the report line gains a space and one letter .. before the line feed": without them, as an earlier board prints it; zeros take
--- their place
+-- 02, M-105: "the report line gains a space and one letter .. before the line feed": without them, as an earlier board prints it; zeros
+-- take their place
 unfoldable pub shortened : List ℕ → List ℕ
 shortened line = written fieldsLength (text "\n" ++ (0 ∷ 0 ∷ [])) line
 

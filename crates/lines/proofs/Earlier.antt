@@ -28,6 +28,15 @@ of-today-else : (bytes : List ℕ) → eqb (length bytes) earlierLength ≡ fals
 unfolding ofToday
 of-today-else bytes e = rw e
 
+of-today-then : (bytes : List ℕ) → length bytes ≡ earlierLength
+    → ofToday bytes ≡ take fieldsLength bytes ++ (text " ." ++ drop fieldsLength bytes)
+unfolding ofToday
+of-today-then bytes long = rw (long, append-assoc)
+
+earlier-joined : (answer : Answer) {a b : List ℕ} → a ≡ take fieldsLength (line answer) → b ≡ text "\n" → a ++ b ≡ earlierLine answer
+unfolding earlierLine
+earlier-joined answer front rest = rw (front, rest)
+
 pub line-of-today : (answer : Answer) → ofToday (line answer) ≡ line answer
 unfolding ofToday
 line-of-today answer = rw length-line
@@ -132,3 +141,30 @@ good-length bytes good =
         → (length bytes ≡ earlierLength) ⊎ (length bytes ≡ lineLength)
     go true e long = inl (eqb-true (length bytes) earlierLength e)
     go false e long = inr (rw (of-today-else bytes e) at long)
+
+-- A line that can be read is the line of an answer, as today's boards print it or as earlier ones did.
+pub good-either :
+    (bytes : List ℕ)
+    → T (shownBy bytes .good)
+    → (let answer : Answer = answerIn (ofToday bytes) in (bytes ≡ line answer) ⊎ (bytes ≡ earlierLine answer))
+good-either bytes good = go (eqb (length bytes) earlierLength) refl
+  where
+    is : line (answerIn (ofToday bytes)) ≡ ofToday bytes
+    is = good-line (ofToday bytes) good .written
+
+    go : (earlier : Bool) → eqb (length bytes) earlierLength ≡ earlier
+        → (bytes ≡ line (answerIn (ofToday bytes))) ⊎ (bytes ≡ earlierLine (answerIn (ofToday bytes)))
+    go false e = inl (sym (is ∙ of-today-else bytes e))
+    go true e =
+        let long : length bytes ≡ earlierLength = eqb-true (length bytes) earlierLength e in
+        let front : length (take fieldsLength bytes) ≡ fieldsLength = length-take-le fieldsLength bytes (omega (arith, long)) in
+        let answer = answerIn (ofToday bytes) in
+        let rest = text " ." ++ drop fieldsLength bytes in
+        let whole : line answer ≡ take fieldsLength bytes ++ rest = is ∙ of-today-then bytes long in
+        let same-front : take fieldsLength (line answer) ≡ take fieldsLength bytes =
+        ap (take fieldsLength) whole ∙ take-at (take fieldsLength bytes) rest fieldsLength front in
+        let same-rest : text " " ++ (letter (answer .judged) ∷ []) ++ text "\n" ≡ rest =
+        sym (drop-at (fields answer) _ fieldsLength (length-fields answer))
+        ∙ ap (drop fieldsLength) (sym (line-by answer) ∙ whole)
+        ∙ drop-at (take fieldsLength bytes) rest fieldsLength front in
+        inr (sym (take-append-drop fieldsLength bytes) ∙ earlier-joined answer (sym same-front) (sym (ap (drop 2) same-rest)))

@@ -5,6 +5,7 @@ use mathlib.Core.Path.{_≡_, ap, _∙_}
 use mathlib.Core.Bool.{Bool}
 use mathlib.Core.List.{List, [], _∷_, _++_, append-assoc}
 use Prim.Native.String.{String}
+use Prim.Native.Char.{code}
 use lib.Dec.{eqb, eqb→eq}
 use lib.IntN.{natAbs}
 use lib.ListN.{getD, take, drop, List·getD-append}
@@ -119,3 +120,8 @@ module _ (answer : Answer) where
   pub letter-at : byte 45 (line answer) ≡ letter (answer .judged)
   unfolding digits signed
   letter-at = ap (byte 45) around-name ∙ byte-behind (answer .state) 31 (behind answer)
+
+  -- the last three bytes
+  pub end-of-line : part 44 3 (line answer) ≡ code " " ∷ letter (answer .judged) ∷ code "\n" ∷ []
+  unfolding digits signed
+  end-of-line = ap (take 3) (from 30)

@@ -53,9 +53,9 @@ impl Plug {
         let lit = 32768 <= answer.live;
         let ended = loaded | (!dead & !stray & !(letter == b'.'));
         Plug {
-            dead: counted(dead, pick_u64(loaded, 0, self.dead)),
-            stray: counted(stray, pick_u64(loaded, 0, self.stray)),
-            row: counted(dead | stray, pick_u64(ended, 0, self.row)),
+            dead: pick_u64(loaded, 0, counted(dead, self.dead)),
+            stray: pick_u64(loaded, 0, counted(stray, self.stray)),
+            row: pick_u64(ended, 0, counted(dead | stray, self.row)),
             lit,
             pattern: pick_u8(lit & !self.lit, pattern, self.pattern),
         }

@@ -104,8 +104,9 @@ pub(crate) fn put_line(
 }
 
 // What may stand behind a sentence, each with its blank in front: what a field of a tick and of a cycle may be, by its place from 1, and
-// the pattern of two sensors; the bits of the live word, bit 15 once more, each time with the last pattern; what the gates do; what a setting may be, by its place, and
-// place 0 is all of them; the refusals that have no place; what the papers have no words for; and what stands between two bits.
+// the pattern of two sensors; the bits of the live word, bit 15 once more, each time with the last pattern; what the gates do; what a
+// setting may be, by its place, and place 0 is all of them; the refusals that have no place; what the papers have no words for; and what
+// stands between two bits.
 const WORDS: [u8; 1940] = *b"
  no field
  gate_kill is 0..1

@@ -11,7 +11,8 @@ use Rattle.verdicts.specs.declared.Verdict.{Verdict}
 abbrev pub lineLength : ℕ
 lineLength = 47
 
--- "fewer than 45 lent bytes for a line", amended by 02, M-105: "number 5 now applies below 47 bytes"; "answer to print has number above 15, state above 9 or gate above 3 | 1, 2 or 3, the first"
+-- "fewer than 45 lent bytes for a line", amended by 02, M-105: "number 5 now applies below 47 bytes"; "answer to print has number above
+-- 15, state above 9 or gate above 3 | 1, 2 or 3, the first"
 abbrev pub lineRows : Answer → ℕ → List Row
 lineRows answer lent =
     row 5 0 (ltb lent lineLength)

@@ -48,7 +48,7 @@ pub remembers-power-up : Remembers powerUp nothingYet
 remembers-power-up = record { loaded = λ t. absurd t; shown = refl; waited = λ t. absurd t; dead = refl }
 
 -- he calls dead what the layout does that the numbers choose
-dead-alike : (numbers : List ℕ) (p : ℕ) → isDead numbers p ≡ deadPattern (Calls.chosen numbers) p
+pub dead-alike : (numbers : List ℕ) (p : ℕ) → isDead numbers p ≡ deadPattern (Calls.chosen numbers) p
 dead-alike numbers p = go (eqb (getD numbers 24 0) 2)
   where
     go : (two : Bool) → (not two && (eqb p 0 || eqb p 7)) ≡ deadPattern (cond two Two Three) p

@@ -193,7 +193,8 @@ module _ (earlier : List Call) (runs : T (inMotorRun (log machine earlier))) whe
       slack-alike =
           let unset : (seven.lock d (slack t) && bit 7 (FaultEnable (d .settings))) ≡ false = rw (seven.unlocked d t loaded) in
           ap (λ (r : Reply). r .answer) (accepted d (slack t) slack-unrefused)
-          ∙ shown-alike (ticked d (slack t)) (ticked other (slack t)) (ticked-alike d other (going .alike) (slack t) loaded unset) Nothing 0 0
+          ∙ shown-alike (ticked d (slack t)) (ticked other (slack t))
+          (ticked-alike d other (going .alike) (slack t) loaded unset) Nothing 0 0
           ∙ sym (ap (λ (r : Reply). r .answer) other-replies)
 
       stalling : T (stalls (numbersOf (log machine past)) t)

@@ -24,7 +24,11 @@ use Rattle.hall.proofs.Layouts.{one-of}
 use Rattle.hall.proofs.Laws.{round}
 use Rattle.drive.specs.Answer.{letterOf}
 use Rattle.theorems_reached.specs.Reached.{Known, HallWithin}
-use Rattle.theorems_samples.specs.Letters.{letterAgainst, letterFor, Samples, withLetter, widthOf, widthLeft, movedBy}
+use Rattle.theorems_samples.specs.Letters.{letterAgainst, Samples, withLetter, widthOf, widthLeft, movedBy}
+
+-- the letter by the order alone: dead is what it does not have
+abbrev pub letterIn : Layout → Kept → ℕ → ℕ
+letterIn l kept p = cond (among (l .order) p) (letterAgainst l kept p) (code "D")
 
 -- two tests that pass where the other does are the same
 alike : (a b : Bool) → (T a → T b) → (T b → T a) → a ≡ b
@@ -67,7 +71,7 @@ module _ (s : Sensors) where
       (λ t. rw (eqb→eq p (next l k) t, round s clockwise k k-stands .back-here) (eqb-refl k))
       (λ t. rw (eqb→eq k (previous l p) t, round s counterclockwise p p-stands .back-here) (eqb-refl p))
 
-  pub letter-is : (kept : Kept) (p : ℕ) → Known l kept → letterFor l kept p ≡ letterOf (fate l p kept)
+  pub letter-is : (kept : Kept) (p : ℕ) → Known l kept → letterIn l kept p ≡ letterOf (fate l p kept)
   unfolding fate beside
   letter-is kept p known = go (among (l .order) p) refl
     where
@@ -195,7 +199,7 @@ module _ (s : Sensors) (hall : Hall) (within : HallWithin s hall) (m : Samples) 
   next-hall = sampled s hall p offset .hall
 
   abbrev his-letter : ℕ
-  his-letter = letterFor (layout s) (m .kept) p
+  his-letter = letterIn (layout s) (m .kept) p
 
   abbrev its-fate : Fate
   its-fate = fate (layout s) p (hall .kept)

@@ -1,8 +1,8 @@
 -- Each call leaves what the reader of the log keeps true of the drive, and so each answer has the letter and the position that he tells.
-use Prim.Native.Nat.{ℕ}
+use Prim.Native.Nat.{ℕ, _≤_}
 use Prim.Native.Char.{code}
 use native.Mathlib.Omega.{arith}
-use mathlib.Core.Path.{_≡_, refl, sym, ap, _∙_}
+use mathlib.Core.Path.{_≡_, refl, sym, ap, subst, _∙_}
 use mathlib.Core.Bool.{Bool, true, false, not, _&&_, _||_, cond}
 use mathlib.Core.List.{List, [], _∷_}
 use lib.Dec.{T, eqb}
@@ -10,13 +10,15 @@ use lib.IntN.{ℤ}
 use lib.ListN.{getD}
 use mir.Syntax.{w16}
 use mir.Val.{toZ}
+use mir.Facts.{ltb-no}
 use borrow.Author.Tests.{eq-eqb}
-use Rattle.hall.specs.Layout.{Layout, three, two, layout}
+use Rattle.hall.specs.Layout.{Layout, three, two, layout, among}
 use Rattle.hall.specs.Fate.{fate}
 use Rattle.hall.specs.Sample.{sampled, after, deadSample, straySample}
 use Rattle.hall.specs.declared.Hall.{Hall}
 use Rattle.hall.specs.declared.fate.Fate.{Fate}
 use Rattle.hall.specs.declared.fate.Fate.the-variants.{Dead, First, Same, Forward, Back, Stray}
+use Rattle.hall.specs.declared.fate.Kept.{Kept}
 use Rattle.hall.specs.declared.layout.Sensors.{Sensors}
 use Rattle.hall.specs.declared.layout.Sensors.the-variants.{Three, Two}
 use Rattle.states.specs.States.{is}
@@ -27,8 +29,8 @@ use Rattle.fields.specs.declared.Cycle.{Cycle}
 use Rattle.fields.specs.declared.Tick.{Tick}
 use Rattle.verdicts.specs.Table.{verdict}
 use Rattle.verdicts.proofs.Passed.{passed}
-use Rattle.drive.specs.Answer.{letterOf, letter, answerTelling, replyTelling, reply as replied}
-use Rattle.drive.specs.Refusals.{cycleRows}
+use Rattle.drive.specs.Answer.{letterOf, letter, answerTelling, replyTelling, reply as shown}
+use Rattle.drive.specs.Refusals.{highestPattern, cycleRows}
 use Rattle.drive.specs.Calls.{chosen, judgedBy, cycled, loaded}
 use Rattle.drive.specs.Ticks.{watch, raised, armedBy, nth, moved, ticked, chosen as chosen-move}
 use Rattle.drive.specs.Blocks.{blockNumbers, marked}
@@ -42,13 +44,15 @@ use Rattle.theorems_history.specs.Onlooker.{memoryOf}
 use Rattle.onlooker.specs.Words.{words}
 use Rattle.theorems_reached.specs.Machine.{machine}
 use Rattle.theorems_reached.specs.Reached.{Reached}
+use Rattle.theorems_reached.proofs.Hall.{deadPattern, outside-the-order}
 use Rattle.theorems_reached.proofs.Keeps.{every-reached}
+use Rattle.lines.proofs.Places.{end-of-line}
 use Rattle.theorems_demands.specs.Stalled.{Log, numbersOf}
-use Rattle.theorems_demands.proofs.Remembers.{Agree, Remembers}
+use Rattle.theorems_demands.proofs.Remembers.{dead-alike, Remembers}
 use Rattle.theorems_demands.proofs.Lawful.{remembered}
-use Rattle.theorems_samples.specs.Letters.{layoutOf, Samples, noSample, withCall, samplesOf, accepted, letterOfCall, shownPosition}
-use Rattle.theorems_samples.specs.Letters.{positionOfCall, isLoad, Told, SampleIsTold}
-use Rattle.theorems_samples.proofs.Fates.{Follows, letter-told, samples-follow, position-told, steps-told}
+use Rattle.theorems_samples.specs.Letters.{layoutOf, letterAgainst, letterFor, Samples, noSample, withCall, samplesOf, accepted, letterOfCall, shownPosition}
+use Rattle.theorems_samples.specs.Letters.{positionOfCall, isLoad, Told, SampleIsTold, NumberSixTellsNothing}
+use Rattle.theorems_samples.proofs.Fates.{letterIn, Follows, letter-told, samples-follow, position-told, steps-told}
 
 -- the layout that he takes from the loaded numbers is the drive's
 same-layout : (numbers : List ℕ) → layoutOf numbers ≡ layout (chosen numbers)
@@ -83,12 +87,23 @@ ticked-hall d t = go (chosen-move d t)
     go Clear = refl
     go Retry = refl
 
+-- of the patterns that a cycle takes, he calls dead those that the order does not have
+letter-in : (numbers : List ℕ) (kept : Kept) (p : ℕ) → p ≤ highestPattern (chosen numbers)
+    → letterFor numbers kept p ≡ letterIn (layout (chosen numbers)) kept p
+letter-in numbers kept p small =
+    rw (dead-alike numbers p, same-layout numbers) (go (deadPattern (chosen numbers) p) (outside-the-order (chosen numbers) p small))
+  where
+    go : (dead : Bool) → not dead ≡ among (layout (chosen numbers) .order) p
+        → cond dead (code "D") (letterAgainst (layout (chosen numbers)) kept p) ≡ letterIn (layout (chosen numbers)) kept p
+    go true e = rw (← e)
+    go false e = rw (← e)
+
 -- before a call: what he keeps, and the position that was shown
 pub record Knows (d : Drive) (m : Samples) (shown : ℕ) : Type 0 where
   pub follows : Follows (d .hall) m
   pub position : shown ≡ d .hall .position
 
-module _ (d : Drive) (reached : Reached d) (numbers : List ℕ) (agrees : T (not (is 0 (d .state))) → layoutOf numbers ≡ layout (d .sensors))
+module _ (d : Drive) (reached : Reached d) (numbers : List ℕ) (agrees : T (not (is 0 (d .state))) → chosen numbers ≡ d .sensors)
     (m : Samples) (shown : ℕ) (knows : Knows d m shown) where
   -- a call with its answer
   abbrev Says : Call → Reply → Type 0
@@ -98,7 +113,8 @@ module _ (d : Drive) (reached : Reached d) (numbers : List ℕ) (agrees : T (not
       × (letter (r .answer .judged) ≡ cond taken (letterOfCall numbers (m .kept) call) (code "."))
       × (r .answer .position ≡ cond taken (positionOfCall numbers (m .kept) call shown) shown)
       × (T (not (taken && isLoad call))
-      → not (eqb (r .answer .position) shown) ≡ (eqb (letter (r .answer .judged)) (code "W") || eqb (letter (r .answer .judged)) (code "B")))
+      → not (eqb (r .answer .position) shown)
+      ≡ (eqb (letter (r .answer .judged)) (code "W") || eqb (letter (r .answer .judged)) (code "B")))
 
   -- a call that leaves the Hall part and tells of no sample: a tick, and any refusal
   rests : (after : Drive) → after .hall ≡ d .hall
@@ -113,13 +129,18 @@ module _ (d : Drive) (reached : Reached d) (numbers : List ℕ) (agrees : T (not
       )
 
   -- an accepted cycle
-  cycle-says : (c : Cycle) → T (not (is 0 (d .state))) → Says (cycles c) (replyTelling (judgedBy d c) 0 0 (cycled d c))
+  cycle-says : (c : Cycle) → T (not (is 0 (d .state))) → c .pattern ≤ highestPattern (d .sensors)
+      → Says (cycles c) (replyTelling (judgedBy d c) 0 0 (cycled d c))
   unfolding answerTelling cycled
-  cycle-says c outside =
+  cycle-says c outside small =
       let offset = toZ w16 (HallAngleOffset (d .settings)) in
       let told = letter-told (d .sensors) (d .hall) (reached .hall) m (knows .follows) (c .pattern) offset in
       let named = ap letterOf (fate-is (d .sensors) (d .hall) (c .pattern) offset) ∙ sym told in
-      rw (agrees outside, knows .position) (
+      let judged-here : letterFor numbers (m .kept) (c .pattern) ≡ letterIn (layout (d .sensors)) (m .kept) (c .pattern) =
+      letter-in numbers (m .kept) (c .pattern) (subst (λ (s : Sensors). c .pattern ≤ highestPattern s) (sym (agrees outside)) small)
+      ∙ ap (λ (s : Sensors). letterIn (layout s) (m .kept) (c .pattern)) (agrees outside) in
+      let laid-out : layoutOf numbers ≡ layout (d .sensors) = same-layout numbers ∙ ap layout (agrees outside) in
+      rw (judged-here, laid-out, knows .position) (
         record { follows = samples-follow (d .sensors) (d .hall) (reached .hall) m (knows .follows) (c .pattern) offset; position = refl },
         named,
         position-told (d .sensors) (d .hall) (reached .hall) m (knows .follows) (c .pattern) offset,
@@ -133,7 +154,7 @@ module _ (d : Drive) (reached : Reached d) (numbers : List ℕ) (agrees : T (not
       (record {
         loads-it = λ given none. (fresh-known (meant given), refl, refl, λ t. absurd t);
         loads-a-block = λ image block none. (fresh-known (meant (blockNumbers image block)), refl, refl, λ t. absurd t);
-        cycles-on = λ c none. cycle-says c (passed (cycleRows d c) tt none .0);
+        cycles-on = λ c none. let p = passed (cycleRows d c) tt none in cycle-says c (p .0) (ltb-no (p .1 .0));
         ticks-on = λ t none. let (known, stays, still) = rests (ticked d t) (ticked-hall d t) in (known, refl, stays, λ _. still);
         refuses = λ call number at dark given.
             let (known, stays, still) = rests d refl in rw given (known, refl, stays, λ _. still);
@@ -153,8 +174,8 @@ module _ (earlier : List Call) where
   abbrev past : Log
   past = log machine earlier
 
-  agrees-then : T (not (is 0 (before .state))) → layoutOf (numbersOf past) ≡ layout (before .sensors)
-  agrees-then outside = same-layout (numbersOf past) ∙ ap layout (remembered earlier .loaded outside .chooses)
+  agrees-then : T (not (is 0 (before .state))) → chosen (numbersOf past) ≡ before .sensors
+  agrees-then outside = remembered earlier .loaded outside .chooses
 
 known : (calls : List Call)
     → Knows (stateAfter machine calls) (samplesOf (log machine calls)) (shownPosition (log machine calls))
@@ -170,4 +191,13 @@ sample-is-told call earlier =
     let (kept, its-letter, its-position, moves) =
     says (before earlier) (every-reached earlier) (numbersOf (past earlier)) (agrees-then earlier) (samplesOf (past earlier))
     (shownPosition (past earlier)) (known earlier) call in
-    record { its-letter = its-letter; its-position = its-position; moves = moves }
+    record {
+      its-letter = its-letter;
+      printed = end-of-line (machine .answer (stateAfter machine earlier) call) ∙ rw its-letter;
+      its-position = its-position;
+      moves = moves;
+    }
+
+pub number-six-tells-nothing : NumberSixTellsNothing
+unfolding answerTelling
+number-six-tells-nothing d = end-of-line (shown 6 0 d .answer)

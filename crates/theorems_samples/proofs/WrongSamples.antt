@@ -30,7 +30,7 @@ use Rattle.theorems_reached.specs.Machine.{machineOf}
 use Rattle.theorems_demands.specs.NamedCalls.{settingsWith, loaded, shows, low}
 use Rattle.theorems_demands.specs.Stalled.{Log}
 use Rattle.theorems_demands.proofs.Computes.{computes, each}
-use Rattle.theorems_samples.specs.Letters.{samplesOf, letterOf, positionOf, isLoad}
+use Rattle.theorems_samples.specs.Letters.{samplesOf, letterByLog, positionByLog, isLoad}
 
 abbrev Replies : Type 0
 Replies = Drive → Call → Reply
@@ -188,7 +188,7 @@ rows =
 -- the newest answer has the letter and the position that the log tells
 abbrev agrees : Log → Bool
 agrees [] = true
-agrees (e ∷ past) = eqb (letter (e .answer .judged)) (letterOf e past) && eqb (e .answer .position) (positionOf e past)
+agrees (e ∷ past) = eqb (letter (e .answer .judged)) (letterByLog e past) && eqb (e .answer .position) (positionByLog e past)
 
 abbrev toldNow : Row → Bool
 toldNow row = not (agrees (log (machineOf (row .0)) (reverse (row .1))))

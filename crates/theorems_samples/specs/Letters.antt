@@ -1,9 +1,9 @@
 -- Document 02, M-105, of calls and answers: "Fitters chasing a loose plug want to see the sample's fate. The sample judgement must name it:
--- first, same, forward, back, dead or stray. Cycle passes the name on in its answer". Whoever reads a log can judge each sample himself: by
--- the pattern of the cycle, by the patterns of the accepted cycles before it, and by the layout that the last accepted load named. So he can
--- tell the letter of each answer, and its position from the position that the answer before it showed. Neither the drive's state is read nor
--- any letter that it gave; each test is written anew here from documents 01 and 02. What a layout is, its order and its widths, is `hall`'s
--- (Layout.antt).
+-- first, same, forward, back, dead or stray. Cycle passes the name on in its answer". Whoever reads a log can judge each sample himself:
+-- by the pattern of the cycle, by the patterns of the accepted cycles before it, and by the layout that the last accepted load named. So
+-- he can tell the letter of each answer and of its line, and its position from the position that the answer before it showed. Neither the
+-- drive's state is read nor any letter that it gave; each test is written anew here from documents 01 and 02, that of a dead pattern in
+-- the onlooker's words (`onlooker` Words.antt `isDead`). What a layout is, its order and its widths, is `hall`'s (Layout.antt).
 use Prim.Native.Nat.{ℕ, _+_, _-_, _%_, _^_}
 use Prim.Native.Char.{code}
 use mathlib.Core.Path.{_≡_}
@@ -11,14 +11,18 @@ use mathlib.Core.Bool.{Bool, true, false, not, _&&_, _||_, cond}
 use mathlib.Core.List.{List, [], _∷_}
 use lib.Dec.{T, eqb}
 use Rattle.numbers.specs.Count.{up}
-use Rattle.hall.specs.Layout.{Layout, three, two, among, under, next}
+use Rattle.hall.specs.Layout.{Layout, three, two, under, next}
 use Rattle.hall.specs.declared.fate.Kept.{Kept}
 use Rattle.hall.specs.declared.fate.Kept.the-variants.{Nothing, Pattern}
 use Rattle.theorems_history.specs.Log.{Entry, stateAfter, log}
 use Rattle.drive.specs.Answer.{letter}
 use Rattle.drive.specs.AnyCall.{Call, loads, cycles, ticks, blockLoads}
+use Rattle.drive.specs.declared.Drive.{Drive}
 use Rattle.drive.specs.declared.answer.Answer.{Answer}
-use Rattle.onlooker.specs.Words.{setting}
+use Rattle.report.specs.Line.{line}
+use Rattle.lines.specs.Fields.{part}
+use Rattle.records.specs.Run.{shiftline}
+use Rattle.onlooker.specs.Words.{setting, isDead}
 use Rattle.theorems_reached.specs.Machine.{machine}
 use Rattle.theorems_demands.specs.Stalled.{Log, numbersOf}
 
@@ -26,7 +30,7 @@ use Rattle.theorems_demands.specs.Stalled.{Log, numbersOf}
 abbrev pub layoutOf : List ℕ → Layout
 layoutOf numbers = cond (eqb (setting 25 numbers) 2) two three
 
--- ---- the letter of a pattern
+-- ---- the letter of a pattern, under the loaded numbers
 
 -- against the kept pattern: "Any of 1..6 with none kept"; "Same as kept"; "Next or previous"; "Another of 1..6"
 abbrev pub letterAgainst : Layout → Kept → ℕ → ℕ
@@ -34,9 +38,9 @@ letterAgainst l Nothing p = code "F"
 letterAgainst l (Pattern k) p =
     cond (eqb p k) (code "S") (cond (eqb p (next l k)) (code "W") (cond (eqb k (next l p)) (code "B") (code "X")))
 
--- "0 or 7", which the order of three sensors does not have
-abbrev pub letterFor : Layout → Kept → ℕ → ℕ
-letterFor l kept p = cond (among (l .order) p) (letterAgainst l kept p) (code "D")
+-- "0 or 7", with three sensors; 02, M-101, of two: "The dead-pattern test does not apply."
+abbrev pub letterFor : List ℕ → Kept → ℕ → ℕ
+letterFor numbers kept p = cond (isDead numbers p) (code "D") (letterAgainst (layoutOf numbers) kept p)
 
 -- ---- what he keeps of the samples
 
@@ -74,7 +78,7 @@ withLetter letter p m =
 -- .. pattern"; a tick brings no sample
 abbrev pub withCall : List ℕ → Samples → Call → Samples
 withCall numbers m (loads loaded) = noSample
-withCall numbers m (cycles c) = withLetter (letterFor (layoutOf numbers) (m .kept) (c .pattern)) (c .pattern) m
+withCall numbers m (cycles c) = withLetter (letterFor numbers (m .kept) (c .pattern)) (c .pattern) m
 withCall numbers m (ticks t) = m
 withCall numbers m (blockLoads image block) = noSample
 
@@ -90,12 +94,12 @@ samplesOf (e ∷ past) = cond (accepted e) (withCall (numbersOf past) (samplesOf
 
 abbrev pub letterOfCall : List ℕ → Kept → Call → ℕ
 letterOfCall numbers kept (loads loaded) = code "."
-letterOfCall numbers kept (cycles c) = letterFor (layoutOf numbers) kept (c .pattern)
+letterOfCall numbers kept (cycles c) = letterFor numbers kept (c .pattern)
 letterOfCall numbers kept (ticks t) = code "."
 letterOfCall numbers kept (blockLoads image block) = code "."
 
-abbrev pub letterOf : Entry Call Answer → Log → ℕ
-letterOf e past = cond (accepted e) (letterOfCall (numbersOf past) (samplesOf past .kept) (e .call)) (code ".")
+abbrev pub letterByLog : Entry Call Answer → Log → ℕ
+letterByLog e past = cond (accepted e) (letterOfCall (numbersOf past) (samplesOf past .kept) (e .call)) (code ".")
 
 -- ---- the position of an answer
 
@@ -121,17 +125,17 @@ movedBy letter l kept p position =
 abbrev pub positionOfCall : List ℕ → Kept → Call → ℕ → ℕ
 positionOfCall numbers kept (loads loaded) position = 0
 positionOfCall numbers kept (cycles c) position =
-    movedBy (letterFor (layoutOf numbers) kept (c .pattern)) (layoutOf numbers) kept (c .pattern) position
+    movedBy (letterFor numbers kept (c .pattern)) (layoutOf numbers) kept (c .pattern) position
 positionOfCall numbers kept (ticks t) position = position
 positionOfCall numbers kept (blockLoads image block) position = 0
 
-abbrev pub positionOf : Entry Call Answer → Log → ℕ
-positionOf e past =
+abbrev pub positionByLog : Entry Call Answer → Log → ℕ
+positionByLog e past =
     cond (accepted e) (positionOfCall (numbersOf past) (samplesOf past .kept) (e .call) (shownPosition past)) (shownPosition past)
 
 -- ---- what is claimed: after any sequence of calls from power-up and one more
 
--- an accepted load, which zeroes the position
+-- a load of either kind: accepted, it zeroes the position
 abbrev pub isLoad : Call → Bool
 isLoad (loads numbers) = true
 isLoad (cycles c) = false
@@ -150,9 +154,11 @@ module _ (call : Call) (earlier : List Call) where
 
   pub record Told : Type 0 where
     -- the letter is the judgement of this cycle's pattern against the pattern that was kept before it; any other answer has the full stop
-    pub its-letter : letter (answered .judged) ≡ letterOf made past
+    pub its-letter : letter (answered .judged) ≡ letterByLog made past
+    -- and so has the line of that answer: 01's 44 bytes, the space, this letter and the line feed
+    pub printed : part 44 3 (line answered) ≡ code " " ∷ letterByLog made past ∷ code "\n" ∷ []
     -- the position is the one shown before, moved by the width that the layout gives; only an accepted load zeroes it
-    pub its-position : answered .position ≡ positionOf made past
+    pub its-position : answered .position ≡ positionByLog made past
     -- but for that, W and B are exactly the answers whose position is another than before
     pub moves :
         T (not (accepted made && isLoad call))
@@ -161,3 +167,7 @@ module _ (call : Call) (earlier : List Call) where
 
 abbrev pub SampleIsTold : Type 0
 SampleIsTold = (call : Call) (earlier : List Call) → Told call earlier
+
+-- "a line with number 6 shows the unchanged state": it is no answer to a call, and tells of no sample, whatever was told before
+abbrev pub NumberSixTellsNothing : Type 0
+NumberSixTellsNothing = (d : Drive) → part 44 3 (shiftline .refusal d) ≡ code " " ∷ code "." ∷ code "\n" ∷ []

@@ -1,6 +1,7 @@
 """What the program judge reads and must print: the records and lines of shiftline's stored run, worked out from document 01, as a board
-would print them that is wrong twice. Up to record 6 the lines are those of a board before M-105, without a letter. At record 4 it shows another position, which demand 3 does not speak of; at record 6 it drives in
-FAULT, under a live flag. From record 7 on it is right again, and the unknown record ends the run."""
+would print them that is wrong twice. Up to record 6 the lines are those of a board before M-105, without a letter. At record 4 it shows
+another position, which demand 3 does not speak of; at record 6 it drives in FAULT, under a live flag. From record 7 on it is right again,
+and the unknown record ends the run."""
 
 from . import Files
 from .shiftline_example import EARLIER_OUTPUT, ENDING, INPUT, OUTPUT, PUMPED, SMALL_PUMP, TURNED, TURNING, UNKNOWN

@@ -1,6 +1,6 @@
 """What the program shiftline reads and must print. First document 01's own example: its input, made from the paper's numbers, and its
-output, typed from the paper, with the letters of M-105 behind it. Behind it a shaft that turns on, for more bytes than the program reads at once, a small pump with two Hall
-sensors (M-101), then an unknown record with whole ones after it, and the lines that the paper's rules give for these."""
+output, typed from the paper, with the letters of M-105. Behind it a shaft that turns on, for more bytes than the program reads at once, a
+small pump with two Hall sensors (M-101), then an unknown record with whole ones after it, and the lines that the paper's rules give."""
 
 from ..line_form import NO_FATE, Report, written
 from ..record_form import CYCLE, LOAD, LOAD_WITH_SENSORS, TICK

@@ -90,7 +90,7 @@ def told() -> Story:
 
     story.tick("tick refused: number 1, place 3: command is 0..1", command=2)
     story.cycle(8, "cycle refused: number 1, place 1: pattern is 0..7")
-    story.load("Hall samples since the load: 6 dead, 6 stray", "loaded: mode 1, 1 retry allowed", ControlMode=1, RetryLimit=1)
+    story.load("Hall samples since the load: 1 dead, 0 stray", "loaded: mode 1, 1 retry allowed", ControlMode=1, RetryLimit=1)
     story.load("loaded: mode 0, no timed retries")
     small_pump(story)
     cold_start(story)
@@ -99,7 +99,7 @@ def told() -> Story:
 
 def loose_plug(story: Story) -> None:
     """A plug that shakes: M-105. A sample by itself is told with its number since the load; of several in a row the first is, and how many
-    there were when they are over. Ticks and a refused cycle between them are no samples. The pattern was forgotten, so that 1 is the first."""
+    there were when they are over. Ticks and a refused cycle between them are no samples. The pattern was forgotten: 1 is the first."""
     story.cycle(1, "Hall samples since the load: 3 dead, 3 stray")
     story.cycle(7, "dead Hall sample 4: pattern 7")
     story.cycle(1)
@@ -113,6 +113,11 @@ def loose_plug(story: Story) -> None:
     story.cycle(5, "stray Hall sample 6: pattern 5")
     story.cycle(0)
     story.cycle(3, "Hall samples since the load: 6 dead, 6 stray")
+    # a load in a row of them: the counts before it are told, and it counts anew
+    story.cycle(5, "stray Hall sample 7: pattern 5")
+    story.load("Hall samples since the load: 6 dead, 7 stray", "loaded: mode 1, 2 retries allowed", ControlMode=1)
+    story.cycle(7, "dead Hall sample 1: pattern 7")
+    story.cycle(1)
 
 
 def small_pump(story: Story) -> None:

@@ -33,6 +33,7 @@ pub serve-spec : {M : Type 1} → statement M
 serve-spec =
     tie.close (tie.spec Inv-loop μ-loop (λ c κs. tt) (λ c κs. tt) (λ c. (refl, refl)) (λ c κs. tt) (λ c κs. tt) (λ c κs. tt)
     (λ c κs. tt) (λ c κs. tt)
-    (λ c. omega (arith, tested (c .before .before .before .before) .loop-test .taken)) loop-less loop-again (λ c. c .before .before .before .loop .inv .0)
+    (λ c. omega (arith, tested (c .before .before .before .before) .loop-test .taken))
+    loop-less loop-again (λ c. c .before .before .before .loop .inv .0)
     (λ c. c .before .before .before .loop .inv .1) (λ c. tt) (λ c. c .before .loop .inv .0) (λ c. c .before .loop .inv .1)
     (λ c. tt))

@@ -12,12 +12,12 @@ returns c =
     let dead = stray .before .before in
     rw (
       c .pick-u8 .ensures,
-      row .counted3 .ensures,
-      row .before .pick-u643 .ensures,
-      stray .counted2 .ensures,
-      stray .before .pick-u642 .ensures,
-      dead .counted .ensures,
-      dead .before .pick-u64 .ensures,
+      row .pick-u643 .ensures,
+      row .before .counted3 .ensures,
+      stray .pick-u642 .ensures,
+      stray .before .counted2 .ensures,
+      dead .pick-u64 .ensures,
+      dead .before .counted .ensures,
       dead .before .before .before .letter .ensures,
     )
 
