@@ -146,7 +146,10 @@ module _ (d : Drive) (r : Reached d) (log : Log) (told : Told d log) where
   yet : T (not (is 0 (d .state))) → loadedYet log ≡ false → ⊥
   yet outside asleep = T-not (is 0 (d .state)) (rw (told .asleep, asleep) tt) outside
 
-  cycle-told : (c : Cycle) → T (not (is 0 (d .state))) → Told (cycled d c) (made (cycles c) (answerTelling (judgedBy d c) 0 0 (cycled d c)) ∷ log)
+  cycle-told :
+      (c : Cycle)
+      → T (not (is 0 (d .state)))
+      → Told (cycled d c) (made (cycles c) (answerTelling (judgedBy d c) 0 0 (cycled d c)) ∷ log)
   unfolding cycled
   cycle-told c outside = stays _ (cycled d c) refl refl refl (λ asleep. absurd (yet outside asleep))
 

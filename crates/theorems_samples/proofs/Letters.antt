@@ -50,7 +50,8 @@ use Rattle.lines.proofs.Places.{end-of-line}
 use Rattle.theorems_demands.specs.Stalled.{Log, numbersOf}
 use Rattle.theorems_demands.proofs.Remembers.{dead-alike, Remembers}
 use Rattle.theorems_demands.proofs.Lawful.{remembered}
-use Rattle.theorems_samples.specs.Letters.{layoutOf, letterAgainst, letterFor, Samples, noSample, withCall, samplesOf, accepted, letterOfCall, shownPosition}
+use Rattle.theorems_samples.specs.Letters.{layoutOf, letterAgainst, letterFor, Samples, noSample}
+use Rattle.theorems_samples.specs.Letters.{withCall, samplesOf, accepted, letterOfCall, shownPosition}
 use Rattle.theorems_samples.specs.Letters.{positionOfCall, isLoad, Told, SampleIsTold, NumberSixTellsNothing}
 use Rattle.theorems_samples.proofs.Fates.{letterIn, Follows, letter-told, samples-follow, position-told, steps-told}
 
