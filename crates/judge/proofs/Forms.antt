@@ -48,7 +48,8 @@ shortened-is answer =
     (sym (kept-is short (omega (arith, size))
     ∙ rw (size, append-assoc (take fieldsLength (line answer)) (text "\n") (0 ∷ 0 ∷ []))))
 
-pub line-for : (size : ℕ) (d : Drive) (call : Call) → lineFor size (reply d call .answer) ≡ lineKept (lineLike size (reply d call .answer))
+pub line-for : (size : ℕ) (d : Drive) (call : Call)
+    → lineFor size (reply d call .answer) ≡ lineKept (lineLike size (reply d call .answer))
 unfolding lineFor
 line-for size d call = rw (reply-printed d call 47 refl (omega arith), append-nil) (go (eqb size earlierLength))
   where
@@ -61,7 +62,8 @@ line-for size d call = rw (reply-printed d call 47 refl (omega arith), append-ni
     go false = sym (kept-is (line answer) (omega (arith, length-line answer)) ∙ rw (length-line answer, append-nil))
 
 -- the line in that form has its length
-length-like : (size : ℕ) (answer : Answer) → (size ≡ earlierLength) ⊎ (size ≡ lineLength) → length (lineLike size answer) ≡ size
+length-like : (size : ℕ) (answer : Answer) → (size ≡ earlierLength) ⊎ (size ≡ lineLength)
+    → length (lineLike size answer) ≡ size
 length-like size answer (inl e) = rw (e, length-earlier answer)
 length-like size answer (inr e) = rw (e, length-line answer)
 

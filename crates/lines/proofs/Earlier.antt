@@ -33,7 +33,8 @@ of-today-then : (bytes : List ℕ) → length bytes ≡ earlierLength
 unfolding ofToday
 of-today-then bytes long = rw (long, append-assoc)
 
-earlier-joined : (answer : Answer) {a b : List ℕ} → a ≡ take fieldsLength (line answer) → b ≡ text "\n" → a ++ b ≡ earlierLine answer
+earlier-joined : (answer : Answer) {a b : List ℕ} → a ≡ take fieldsLength (line answer) → b ≡ text "\n"
+    → a ++ b ≡ earlierLine answer
 unfolding earlierLine
 earlier-joined answer front rest = rw (front, rest)
 

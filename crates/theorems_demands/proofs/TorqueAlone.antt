@@ -40,7 +40,8 @@ module _ (d other : Drive) (a : Alike d other) where
       (live-flag alwaysLive (FaultEnable (d .settings)) 7 (a .set) ∙ ap (flag 7) none)
       ∙ or-zero-r (alive (d .settings) (a .flags or more))
 
-  pub shown-alike : (judged : Judged) (number place : ℕ) → answerTelling judged number place d ≡ answerTelling judged number place other
+  pub shown-alike : (judged : Judged) (number place : ℕ)
+      → answerTelling judged number place d ≡ answerTelling judged number place other
   unfolding answerTelling
   shown-alike judged number place =
       let live : alive (d .settings) (d .flags) ≡ alive (d .settings) (a .flags) =

@@ -38,7 +38,8 @@ row-small (e ∷ past) =
     let earlier = row-small past in
     by-test (λ (l : Log). badRow l ≤ suc (length past)) (loadsNow e) (λ _. omega arith)
     (λ _. by-test (λ n. n ≤ suc (length past)) (says (code ".") e) (λ _. omega (arith, earlier))
-    (λ _. by-test (λ n. n ≤ suc (length past)) (says (code "D") e || says (code "X") e) (λ _. omega (arith, earlier)) (λ _. omega arith)))
+    (λ _. by-test (λ n. n ≤ suc (length past)) (says (code "D") e || says (code "X") e) (λ _. omega (arith, earlier))
+    (λ _. omega arith)))
 
 -- so none stops
 counted-on : (test : Bool) (n c : ℕ) → n ≡ c → c < most → counted test n ≡ cond test (suc c) c

@@ -3,7 +3,7 @@
 -- drive passes: Letters.antt.)
 use mathlib.Core.Path.{_≡_, refl}
 use mathlib.Core.Bool.{Bool, true, false, not, _&&_, cond}
-use mathlib.Core.List.{List, [], _∷_, _++_, reverse}
+use mathlib.Core.List.{List, [], _∷_, _++_, map, reverse}
 use Prim.Native.Nat.{ℕ, _+_, _-_, _%_, _^_}
 use Prim.Native.Char.{code}
 use lib.Dec.{eqb}
@@ -141,6 +141,10 @@ oneLate =
 abbrev two : Call
 two = loads (settingsWith 0 0 ++ (2 ∷ []))
 
+-- a load of three sensors, and cycles with these patterns
+abbrev fed : List ℕ → List Call
+fed patterns = loaded ∷ map shows patterns
+
 -- a wrong drive, and the calls at whose last it is told
 abbrev Row : Type 0
 Row = Replies × List Call
@@ -148,41 +152,43 @@ Row = Replies × List Call
 abbrev rows : List Row
 rows =
     -- names exchanged
-    (changed (λ d call. renamed firstForSame), loaded ∷ shows 1 ∷ []) ∷
-    (changed (λ d call. renamed backForForward), loaded ∷ shows 1 ∷ shows 3 ∷ []) ∷
-    (changed (λ d call. renamed strayForDead), loaded ∷ shows 0 ∷ []) ∷
+    (changed (λ d call. renamed firstForSame), fed (1 ∷ [])) ∷
+    (changed (λ d call. renamed backForForward), fed (1 ∷ 3 ∷ [])) ∷
+    (changed (λ d call. renamed strayForDead), fed (0 ∷ [])) ∷
     -- "a refused sample is not judged"; a tick and a load bring none
-    (changed (λ d call r. cond (isCycle call && not (accepted r)) (telling (Sample Same) r) r), loaded ∷ shows 8 ∷ []) ∷
+    (changed (λ d call r. cond (isCycle call && not (accepted r)) (telling (Sample Same) r) r), fed (8 ∷ [])) ∷
     (changed (λ d call r. cond (isCycle call) r (telling (Sample Same) r)), loaded ∷ low ∷ []) ∷
     (changed (λ d call r. cond (isCycle call) r (telling (Sample First) r)), loaded ∷ []) ∷
     -- "the sample that makes flag 15 keeps its name"
-    (changed (λ d call r. cond (eqb (r .answer .live) 32768) (telling Unjudged r) r), loaded ∷ shows 1 ∷ shows 6 ∷ shows 6 ∷ shows 6 ∷ []) ∷
-    (changed (λ d call r. cond (eqb (r .answer .live) 32768) (telling Unjudged r) r), loaded ∷ shows 1 ∷ shows 0 ∷ shows 7 ∷ []) ∷
+    (changed (λ d call r. cond (eqb (r .answer .live) 32768) (telling Unjudged r) r), fed (1 ∷ 6 ∷ 6 ∷ 6 ∷ [])) ∷
+    (changed (λ d call r. cond (eqb (r .answer .live) 32768) (telling Unjudged r) r), fed (1 ∷ 0 ∷ 7 ∷ [])) ∷
     -- the pattern kept over two dead samples; forgotten after one; forgotten by a tick; forgotten by a refused cycle; kept over a load
-    (changed (λ d call r. cond (isFate (code "D") r) (keeping (d .hall .kept) r) r), loaded ∷ shows 1 ∷ shows 0 ∷ shows 0 ∷ shows 1 ∷ []) ∷
-    (changed (λ d call r. cond (isFate (code "D") r) (keeping Nothing r) r), loaded ∷ shows 1 ∷ shows 0 ∷ shows 1 ∷ []) ∷
+    (changed (λ d call r. cond (isFate (code "D") r) (keeping (d .hall .kept) r) r), fed (1 ∷ 0 ∷ 0 ∷ 1 ∷ [])) ∷
+    (changed (λ d call r. cond (isFate (code "D") r) (keeping Nothing r) r), fed (1 ∷ 0 ∷ 1 ∷ [])) ∷
     (changed (λ d call r. cond (isCycle call) r (keeping Nothing r)), loaded ∷ shows 1 ∷ low ∷ shows 1 ∷ []) ∷
-    (changed (λ d call r. cond (accepted r) r (keeping Nothing r)), loaded ∷ shows 1 ∷ shows 8 ∷ shows 1 ∷ []) ∷
-    (changed (λ d call r. cond (isCycle call) r (keeping (d .hall .kept) r)), loaded ∷ shows 1 ∷ loaded ∷ shows 1 ∷ []) ∷
+    (changed (λ d call r. cond (accepted r) r (keeping Nothing r)), fed (1 ∷ 8 ∷ 1 ∷ [])) ∷
+    (changed (λ d call r. cond (isCycle call) r (keeping (d .hall .kept) r)), loaded ∷ shows 1 ∷ fed (1 ∷ [])) ∷
     -- a stray streak that a dead sample does not end; one that is forgotten at its second
     (
       changed (λ d call r. cond (isFate (code "D") r) (straying (d .hall .«stray_streak») r) r),
-      loaded ∷ shows 1 ∷ shows 6 ∷ shows 6 ∷ shows 0 ∷ shows 6 ∷ shows 1 ∷ [],
+      fed (1 ∷ 6 ∷ 6 ∷ 0 ∷ 6 ∷ 1 ∷ []),
     ) ∷ (
       changed (λ d call r. cond (isFate (code "X") r && eqb (d .hall .«stray_streak») 1) (keeping Nothing r) r),
-      loaded ∷ shows 1 ∷ shows 6 ∷ shows 6 ∷ shows 1 ∷ [],
+      fed (1 ∷ 6 ∷ 6 ∷ 1 ∷ []),
     ) ∷
     -- a stray pattern that is kept
-    (changed (λ d call r. cond (isFate (code "X") r) (keeping (Pattern 6) r) r), loaded ∷ shows 1 ∷ shows 6 ∷ shows 6 ∷ []) ∷
+    (changed (λ d call r. cond (isFate (code "X") r) (keeping (Pattern 6) r) r), fed (1 ∷ 6 ∷ 6 ∷ [])) ∷
     -- three sensors whatever is loaded; those of the load before
     (changed (λ d call r. cond (isLoad call) (sensing Three r) r), two ∷ shows 0 ∷ []) ∷
-    (changed (λ d call r. cond (isLoad call && not (is 0 (d .state))) (sensing (d .sensors) r) r), two ∷ loaded ∷ shows 0 ∷ []) ∷
+    (changed (λ d call r. cond (isLoad call && not (is 0 (d .state))) (sensing (d .sensors) r) r), two ∷ fed (0 ∷ [])) ∷
     -- the position: counted at a first sample; up where the step is back; not at all; by one where the sector has two; kept over a load
-    (changed (λ d call r. cond (isFate (code "F") r) (counting (λ n. n + 1) r) r), loaded ∷ shows 1 ∷ []) ∷
-    (changed (λ d call r. cond (isFate (code "B") r) (counting (λ n. (n + 2) % 2 ^ 32) r) r), loaded ∷ shows 3 ∷ shows 1 ∷ []) ∷
-    (changed (λ d call r. cond (isFate (code "W") r) (counting (λ n. d .hall .position) r) r), loaded ∷ shows 1 ∷ shows 3 ∷ []) ∷
-    (changed (λ d call r. cond (isFate (code "W") r) (counting (λ n. n - 1) r) r), two ∷ shows 1 ∷ shows 3 ∷ []) ∷
-    (changed (λ d call r. cond (isCycle call) r (counting (λ n. d .hall .position) r)), loaded ∷ shows 1 ∷ shows 3 ∷ loaded ∷ []) ∷
+    (changed (λ d call r. cond (isFate (code "F") r) (counting (λ n. n + 1) r) r), fed (1 ∷ [])) ∷
+    (changed (λ d call r. cond (isFate (code "B") r) (counting (λ n. (n + 2) % 2 ^ 32) r) r), fed (3 ∷ 1 ∷ [])) ∷
+    (changed (λ d call r. cond (isFate (code "W") r) (counting (λ n. d .hall .position) r) r), fed (1 ∷ 3 ∷ [])) ∷
+    (changed (λ d call r. cond (isFate (code "W") r) (counting (λ n. n - 1) r) r), two ∷ shows 1 ∷ shows 3 ∷ []) ∷ (
+      changed (λ d call r. cond (isCycle call) r (counting (λ n. d .hall .position) r)),
+      fed (1 ∷ 3 ∷ []) ++ (loaded ∷ []),
+    ) ∷
     []
 
 -- the newest answer has the letter and the position that the log tells

@@ -8,7 +8,8 @@ use Rattle.program_why.proofs.sentence.put_bits.Statement.{statement}
 use Rattle.program_why.proofs.sentence.put_bits.Tie as tie
 
 abbrev Inv-loop : tie.InvT-loop
-Inv-loop output₀ at live dead pattern next₀ rest₀ number₀ output next rest number = (length output ≡ length output₀) × (number ≤ 16)
+Inv-loop output₀ at live dead pattern next₀ rest₀ number₀ output next rest number =
+    (length output ≡ length output₀) × (number ≤ 16)
 
 abbrev μ-loop : tie.MeasureT-loop
 μ-loop output₀ at live dead pattern next₀ rest₀ number₀ output next rest number = 16 - number
