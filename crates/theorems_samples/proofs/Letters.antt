@@ -47,12 +47,13 @@ use Rattle.theorems_reached.specs.Reached.{Reached}
 use Rattle.theorems_reached.proofs.Hall.{deadPattern, outside-the-order}
 use Rattle.theorems_reached.proofs.Keeps.{every-reached}
 use Rattle.lines.proofs.Places.{end-of-line}
+use Rattle.theorems_demands.specs.FlagTwelve.{isLoad}
 use Rattle.theorems_demands.specs.Stalled.{Log, numbersOf}
 use Rattle.theorems_demands.proofs.Remembers.{dead-alike, Remembers}
 use Rattle.theorems_demands.proofs.Lawful.{remembered}
 use Rattle.theorems_samples.specs.Letters.{layoutOf, letterAgainst, letterFor, Samples, noSample}
 use Rattle.theorems_samples.specs.Letters.{withCall, samplesOf, accepted, letterOfCall, shownPosition}
-use Rattle.theorems_samples.specs.Letters.{positionOfCall, isLoad, Told, SampleIsTold, NumberSixTellsNothing}
+use Rattle.theorems_samples.specs.Letters.{positionOfCall, Told, SampleIsTold, NumberSixTellsNothing}
 use Rattle.theorems_samples.proofs.Fates.{letterIn, Follows, letter-told, samples-follow, position-told, steps-told}
 
 -- the layout that he takes from the loaded numbers is the drive's
@@ -113,7 +114,7 @@ module _ (d : Drive) (reached : Reached d) (numbers : List ℕ) (agrees : T (not
       Knows (r .drive) (cond taken (withCall numbers m call) m) (r .answer .position)
       × (letter (r .answer .judged) ≡ cond taken (letterOfCall numbers (m .kept) call) (code "."))
       × (r .answer .position ≡ cond taken (positionOfCall numbers (m .kept) call shown) shown)
-      × (T (not (taken && isLoad call))
+      × (T (not (isLoad call && taken))
       → not (eqb (r .answer .position) shown)
       ≡ (eqb (letter (r .answer .judged)) (code "W") || eqb (letter (r .answer .judged)) (code "B")))
 

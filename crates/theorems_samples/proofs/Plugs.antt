@@ -18,8 +18,9 @@ use Rattle.drive.specs.AnyCall.{Call}
 use Rattle.drive.specs.declared.answer.Answer.{Answer}
 use Rattle.onlooker.specs.Past.{most}
 use Rattle.onlooker.specs.Plug.{counted, plugAfter}
+use Rattle.theorems_demands.specs.FlagTwelve.{loads-now}
 use Rattle.theorems_demands.specs.Stalled.{Log}
-use Rattle.theorems_samples.specs.Plugs.{loadsNow, patternOf, plugOf, sinceLoad, says, count, badRow, shines, litBy, Sixteen}
+use Rattle.theorems_samples.specs.Plugs.{patternOf, plugOf, sinceLoad, says, count, badRow, shines, litBy, Sixteen}
 use Rattle.theorems_samples.specs.Plugs.{PlugTold, PlugIsTold}
 
 -- no count is more than there are answers
@@ -28,7 +29,7 @@ unfolding sinceLoad count
 count-small wanted [] = omega arith
 count-small wanted (e ∷ past) =
     let earlier = count-small wanted past in
-    by-test (λ (l : Log). count wanted l ≤ suc (length past)) (loadsNow e) (λ _. omega arith)
+    by-test (λ (l : Log). count wanted l ≤ suc (length past)) (loads-now e) (λ _. omega arith)
     (λ _. by-test (λ n. n ≤ suc (length past)) (says wanted e) (λ _. omega (arith, earlier)) (λ _. omega (arith, earlier)))
 
 row-small : (log : Log) → badRow (sinceLoad log) ≤ length log
@@ -36,7 +37,7 @@ unfolding sinceLoad badRow
 row-small [] = omega arith
 row-small (e ∷ past) =
     let earlier = row-small past in
-    by-test (λ (l : Log). badRow l ≤ suc (length past)) (loadsNow e) (λ _. omega arith)
+    by-test (λ (l : Log). badRow l ≤ suc (length past)) (loads-now e) (λ _. omega arith)
     (λ _. by-test (λ n. n ≤ suc (length past)) (says (code ".") e) (λ _. omega (arith, earlier))
     (λ _. by-test (λ n. n ≤ suc (length past)) (says (code "D") e || says (code "X") e) (λ _. omega (arith, earlier))
     (λ _. omega arith)))
@@ -89,19 +90,19 @@ plug-is-told (e ∷ past) few sixteen =
     }
   where
     counts : (wanted n : ℕ) → n ≡ count wanted (sinceLoad past)
-        → cond (loadsNow e) 0 (counted (says wanted e) n) ≡ count wanted (cond (loadsNow e) [] (e ∷ sinceLoad past))
-    counts wanted n same = go (loadsNow e)
+        → cond (loads-now e) 0 (counted (says wanted e) n) ≡ count wanted (cond (loads-now e) [] (e ∷ sinceLoad past))
+    counts wanted n same = go (loads-now e)
       where
         go : (loaded : Bool) → cond loaded 0 (counted (says wanted e) n) ≡ count wanted (cond loaded [] (e ∷ sinceLoad past))
         go true = refl
         go false = counted-on (says wanted e) n (count wanted (sinceLoad past)) same (omega (arith, few, count-small wanted past))
 
     rows : plugOf past .row ≡ badRow (sinceLoad past)
-        → plugOf (e ∷ past) .row ≡ badRow (cond (loadsNow e) [] (e ∷ sinceLoad past))
+        → plugOf (e ∷ past) .row ≡ badRow (cond (loads-now e) [] (e ∷ sinceLoad past))
     rows same =
-        row-by (loadsNow e) (letter (e .answer .judged)) (plugOf past .row) (badRow (sinceLoad past)) same
+        row-by (loads-now e) (letter (e .answer .judged)) (plugOf past .row) (badRow (sinceLoad past)) same
         (omega (arith, few, row-small past))
-        ∙ go (loadsNow e)
+        ∙ go (loads-now e)
       where
         go : (loaded : Bool)
             → cond loaded 0 (badRow (e ∷ sinceLoad past)) ≡ badRow (cond loaded [] (e ∷ sinceLoad past))

@@ -28,9 +28,10 @@ use Rattle.drive.specs.declared.answer.Judged.the-variants.{Nothing as Unjudged
 use Rattle.drive.specs.declared.answer.Reply.{Reply}
 use Rattle.theorems_reached.specs.Machine.{machineOf}
 use Rattle.theorems_demands.specs.NamedCalls.{settingsWith, loaded, shows, low}
+use Rattle.theorems_demands.specs.FlagTwelve.{isLoad}
 use Rattle.theorems_demands.specs.Stalled.{Log}
 use Rattle.theorems_demands.proofs.Computes.{computes, each}
-use Rattle.theorems_samples.specs.Letters.{samplesOf, letterByLog, positionByLog, isLoad}
+use Rattle.theorems_samples.specs.Letters.{samplesOf, letterByLog, positionByLog}
 
 abbrev Replies : Type 0
 Replies = Drive → Call → Reply

@@ -7,7 +7,7 @@
 use Prim.Native.Nat.{ℕ, _+_, _-_, _%_, _^_}
 use Prim.Native.Char.{code}
 use mathlib.Core.Path.{_≡_}
-use mathlib.Core.Bool.{Bool, true, false, not, _&&_, _||_, cond}
+use mathlib.Core.Bool.{Bool, not, _||_, cond}
 use mathlib.Core.List.{List, [], _∷_}
 use lib.Dec.{T, eqb}
 use Rattle.numbers.specs.Count.{up}
@@ -24,6 +24,7 @@ use Rattle.lines.specs.Fields.{part}
 use Rattle.records.specs.Run.{shiftline}
 use Rattle.onlooker.specs.Words.{setting, isDead}
 use Rattle.theorems_reached.specs.Machine.{machine}
+use Rattle.theorems_demands.specs.FlagTwelve.{loads-now}
 use Rattle.theorems_demands.specs.Stalled.{Log, numbersOf}
 
 -- 02, M-101: "Setting 25 chooses 2 or 3 sensors", of the last accepted load
@@ -135,13 +136,6 @@ positionByLog e past =
 
 -- ---- what is claimed: after any sequence of calls from power-up and one more
 
--- a load of either kind: accepted, it zeroes the position
-abbrev pub isLoad : Call → Bool
-isLoad (loads numbers) = true
-isLoad (cycles c) = false
-isLoad (ticks t) = false
-isLoad (blockLoads image block) = true
-
 module _ (call : Call) (earlier : List Call) where
   abbrev answered : Answer
   answered = machine .answer (stateAfter machine earlier) call
@@ -161,7 +155,7 @@ module _ (call : Call) (earlier : List Call) where
     pub its-position : answered .position ≡ positionByLog made past
     -- but for that, W and B are exactly the answers whose position is another than before
     pub moves :
-        T (not (accepted made && isLoad call))
+        T (not (loads-now made))
         → not (eqb (answered .position) (shownPosition past)) ≡ (eqb (letter (answered .judged)) (code "W")
         || eqb (letter (answered .judged)) (code "B"))
 

@@ -16,11 +16,8 @@ use Rattle.drive.specs.declared.answer.Answer.{Answer}
 use Rattle.onlooker.specs.Past.{most}
 use Rattle.onlooker.specs.Plug.{firm, plugAfter}
 use Rattle.onlooker.specs.declared.plug.Plug.{Plug}
+use Rattle.theorems_demands.specs.FlagTwelve.{loads-now}
 use Rattle.theorems_demands.specs.Stalled.{Log}
-use Rattle.theorems_samples.specs.Letters.{accepted, isLoad}
-
-abbrev pub loadsNow : Entry Call Answer → Bool
-loadsNow e = accepted e && isLoad (e .call)
 
 -- a cycle's pattern
 abbrev pub patternOf : Call → ℕ
@@ -32,14 +29,14 @@ patternOf (blockLoads image block) = 0
 -- the code's plug after a log
 unfoldable pub plugOf : Log → Plug
 plugOf [] = firm
-plugOf (e ∷ past) = plugAfter (plugOf past) (loadsNow e) (patternOf (e .call)) (e .answer)
+plugOf (e ∷ past) = plugAfter (plugOf past) (loads-now e) (patternOf (e .call)) (e .answer)
 
 -- ---- of the log as a whole
 
 -- what came behind the last accepted load
 unfoldable pub sinceLoad : Log → Log
 sinceLoad [] = []
-sinceLoad (e ∷ past) = cond (loadsNow e) [] (e ∷ sinceLoad past)
+sinceLoad (e ∷ past) = cond (loads-now e) [] (e ∷ sinceLoad past)
 
 abbrev pub says : ℕ → Entry Call Answer → Bool
 says wanted e = eqb (letter (e .answer .judged)) wanted
