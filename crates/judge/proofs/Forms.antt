@@ -14,12 +14,12 @@ use Rattle.drive.specs.AnyCall.{Call, reply}
 use Rattle.drive.specs.declared.Drive.{Drive}
 use Rattle.drive.specs.declared.answer.Answer.{Answer}
 use Rattle.report.specs.Refusals.{lineLength}
-use Rattle.report.specs.Line.{line}
+use Rattle.report.specs.Line.{fields, line}
 use Rattle.report.proofs.Fields.{length-line}
 use Rattle.records.proofs.Printed.{reply-printed}
 use Rattle.lines.specs.Earlier.{earlierLength, fieldsLength, earlierLine, lineLike}
 use Rattle.lines.specs.Shown.{shownBy}
-use Rattle.lines.proofs.Earlier.{length-earlier, good-length}
+use Rattle.lines.proofs.Earlier.{front-is, length-earlier, good-length}
 use Rattle.judge.specs.Judged.{blank, shortened, lineFor, lineKept}
 
 -- what is kept of a line that is not too long: the line, and zeros behind it
@@ -38,15 +38,13 @@ kept-same a b long fits same =
 shortened-is : (answer : Answer) → shortened (line answer) ≡ lineKept (earlierLine answer)
 unfolding shortened earlierLine
 shortened-is answer =
-    let front : length (take fieldsLength (line answer)) ≡ fieldsLength =
-    length-take-le fieldsLength (line answer) (omega (arith, length-line answer)) in
     let nothing-behind : drop 47 (line answer) ≡ [] = drop-of-length-le (line answer) {i = 47} (omega (arith, length-line answer)) in
-    let short = take fieldsLength (line answer) ++ text "\n" in
-    let size : length short ≡ earlierLength = simp length-append (omega (arith, front)) in
+    let short = fields answer ++ text "\n" in
+    let size : length short ≡ earlierLength = length-earlier answer in
     written-whole fieldsLength (text "\n" ++ (0 ∷ 0 ∷ [])) (line answer) (omega (arith, length-line answer))
-    ∙ rw (nothing-behind, append-nil)
+    ∙ rw (nothing-behind, append-nil, front-is answer)
     (sym (kept-is short (omega (arith, size))
-    ∙ rw (size, append-assoc (take fieldsLength (line answer)) (text "\n") (0 ∷ 0 ∷ []))))
+    ∙ rw (size, append-assoc (fields answer) (text "\n") (0 ∷ 0 ∷ []))))
 
 pub line-for : (size : ℕ) (d : Drive) (call : Call)
     → lineFor size (reply d call .answer) ≡ lineKept (lineLike size (reply d call .answer))

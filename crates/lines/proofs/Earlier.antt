@@ -14,9 +14,8 @@ use Rattle.drive.specs.Answer.{letter}
 use Rattle.drive.specs.declared.answer.Answer.{Answer}
 use Rattle.drive.specs.declared.answer.Judged.the-variants.{Nothing}
 use Rattle.text.specs.Text.{text}
-use Rattle.report.specs.Text.{digits, signed}
 use Rattle.report.specs.Refusals.{lineLength}
-use Rattle.report.specs.Line.{name, line}
+use Rattle.report.specs.Line.{fields, line}
 use Rattle.report.proofs.Digits.{length-digits}
 use Rattle.report.proofs.Fields.{length-line, length-signed, length-name}
 use Rattle.lines.specs.Fields.{part, answerIn}
@@ -33,31 +32,9 @@ of-today-then : (bytes : List ℕ) → length bytes ≡ earlierLength
 unfolding ofToday
 of-today-then bytes long = rw (long, append-assoc)
 
-earlier-joined : (answer : Answer) {a b : List ℕ} → a ≡ take fieldsLength (line answer) → b ≡ text "\n"
-    → a ++ b ≡ earlierLine answer
-unfolding earlierLine
-earlier-joined answer front rest = rw (front, rest)
-
 pub line-of-today : (answer : Answer) → ofToday (line answer) ≡ line answer
 unfolding ofToday
 line-of-today answer = rw length-line
-
--- all that stands before the sample's letter, and its blank
-abbrev fields : Answer → List ℕ
-fields answer =
-    digits 16 1 (answer .number)
-    ++ text " "
-    ++ name (answer .state)
-    ++ text " "
-    ++ digits 10 1 (answer .gate)
-    ++ text " "
-    ++ digits 16 4 (answer .live)
-    ++ text " "
-    ++ signed (answer .reference)
-    ++ text " "
-    ++ digits 16 8 (answer .position)
-    ++ text " "
-    ++ signed (answer .angle)
 
 length-fields : (answer : Answer) → length (fields answer) ≡ fieldsLength
 length-fields answer = simp (length-append, length-digits, length-signed, length-name)
@@ -70,11 +47,14 @@ line-by answer = together (fields answer) (text " ") (letter (answer .judged) �
     together : (front a b c : List ℕ) → front ++ a ++ b ++ c ≡ front ++ (a ++ b ++ c)
     together front a b c = simp append-assoc
 
-earlier-by : (answer : Answer) → earlierLine answer ≡ fields answer ++ text "\n"
+-- so it begins with the fields
+pub front-is : (answer : Answer) → take fieldsLength (line answer) ≡ fields answer
+front-is answer = ap (take fieldsLength) (line-by answer) ∙ take-at (fields answer) _ fieldsLength (length-fields answer)
+
+earlier-joined : (answer : Answer) {a b : List ℕ} → take fieldsLength (line answer) ≡ a → text "\n" ≡ b
+    → a ++ b ≡ earlierLine answer
 unfolding earlierLine
-earlier-by answer =
-    ap (λ (bytes : List ℕ). take fieldsLength bytes ++ text "\n") (line-by answer)
-    ∙ ap (λ (bytes : List ℕ). bytes ++ text "\n") (take-at (fields answer) _ fieldsLength (length-fields answer))
+earlier-joined answer front rest = rw (← front, ← rest, front-is answer)
 
 -- the same answer without a sample
 abbrev pub untold : Answer → Answer
@@ -100,10 +80,8 @@ inserted front long =
     rw (length-append, long, take-at front (text "\n") fieldsLength long, drop-at front (text "\n") fieldsLength long, append-assoc)
 
 pub earlier-of-today : (answer : Answer) → ofToday (earlierLine answer) ≡ line (untold answer)
-earlier-of-today answer =
-    ap ofToday (earlier-by answer)
-    ∙ inserted (fields answer) (length-fields answer)
-    ∙ sym (line-by (untold answer))
+unfolding earlierLine
+earlier-of-today answer = inserted (fields answer) (length-fields answer) ∙ sym (line-by (untold answer))
 
 -- what stands in front is not touched
 pub name-of-today : (bytes : List ℕ) → part 2 12 bytes ≡ part 2 12 (ofToday bytes)
@@ -130,7 +108,8 @@ name-of-today bytes =
         ∙ ap (part 2 12) (sym (append-assoc (take fieldsLength bytes) (text " .") (drop fieldsLength bytes)))
 
 pub length-earlier : (answer : Answer) → length (earlierLine answer) ≡ earlierLength
-length-earlier answer = ap length (earlier-by answer) ∙ length-append (fields answer) (text "\n") ∙ rw (length-fields answer)
+unfolding earlierLine
+length-earlier answer = length-append (fields answer) (text "\n") ∙ rw (length-fields answer)
 
 -- a line that can be read is of one of the two lengths
 pub good-length : (bytes : List ℕ) → T (shownBy bytes .good) → (length bytes ≡ earlierLength) ⊎ (length bytes ≡ lineLength)
@@ -168,4 +147,4 @@ good-either bytes good = go (eqb (length bytes) earlierLength) refl
         sym (drop-at (fields answer) _ fieldsLength (length-fields answer))
         ∙ ap (drop fieldsLength) (sym (line-by answer) ∙ whole)
         ∙ drop-at (take fieldsLength bytes) rest fieldsLength front in
-        inr (sym (take-append-drop fieldsLength bytes) ∙ earlier-joined answer (sym same-front) (sym (ap (drop 2) same-rest)))
+        inr (sym (take-append-drop fieldsLength bytes) ∙ earlier-joined answer same-front (ap (drop 2) same-rest))

@@ -7,7 +7,7 @@ use lib.Dec.{eqb}
 use lib.ListN.{length, take, drop}
 use Rattle.drive.specs.declared.answer.Answer.{Answer}
 use Rattle.text.specs.Text.{text}
-use Rattle.report.specs.Line.{line}
+use Rattle.report.specs.Line.{fields, line}
 
 -- 01: "45 bytes", of which the line feed is the last
 abbrev pub earlierLength : ℕ
@@ -18,7 +18,7 @@ fieldsLength = 44
 
 -- the line that such a board prints for an answer
 unfoldable pub earlierLine : Answer → List ℕ
-earlierLine answer = take fieldsLength (line answer) ++ text "\n"
+earlierLine answer = fields answer ++ text "\n"
 
 -- the line of an answer, in the form of a line of so many bytes
 abbrev pub lineLike : ℕ → Answer → List ℕ

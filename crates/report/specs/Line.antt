@@ -30,10 +30,9 @@ abbrev pub name : ℕ → List ℕ
 name state = padded 12 (text (getD names state ""))
 
 -- "number, one hex digit; space; name of the state, ..; space; gate; space; live word, 4 hex; space; speed reference, sign and
--- 5 digits; space; position, 8 hex; space; angle, sign and 5 digits; line feed"; 02, M-105: "the report line gains a space and one letter
--- (F, S, W, B, D, X, or a full stop otherwise) before the line feed"
-unfoldable pub line : Answer → List ℕ
-line answer =
+-- 5 digits; space; position, 8 hex; space; angle, sign and 5 digits"
+abbrev pub fields : Answer → List ℕ
+fields answer =
     digits 16 1 (answer .number)
     ++ text " "
     ++ name (answer .state)
@@ -47,9 +46,11 @@ line answer =
     ++ digits 16 8 (answer .position)
     ++ text " "
     ++ signed (answer .angle)
-    ++ text " "
-    ++ (letter (answer .judged) ∷ [])
-    ++ text "\n"
+
+-- ".. line feed"; 02, M-105: "the report line gains a space and one letter (F, S, W, B, D, X, or a full stop otherwise) before the line
+-- feed"
+unfoldable pub line : Answer → List ℕ
+line answer = fields answer ++ text " " ++ (letter (answer .judged) ∷ []) ++ text "\n"
 
 -- "lent bytes after them unchanged"; "A refusal changes .. no lent byte"
 abbrev pub lentAfter : Answer → List ℕ → List ℕ

@@ -16,7 +16,7 @@ use Rattle.hall.specs.declared.fate.Kept.{Kept}
 use Rattle.hall.specs.declared.fate.Kept.the-variants.{Nothing, Pattern}
 use Rattle.hall.specs.declared.layout.Sensors.{Sensors}
 use Rattle.hall.specs.declared.layout.Sensors.the-variants.{Three}
-use Rattle.drive.specs.Answer.{letter, replyTelling}
+use Rattle.drive.specs.Answer.{letterOf, letter, replyTelling}
 use Rattle.states.specs.States.{is}
 use Rattle.states.specs.declared.State.the-variants.{Stop}
 use Rattle.drive.specs.Calls.{fresh, becomes, powerUp}
@@ -62,29 +62,9 @@ nameOf name (Sample f) = name f
 abbrev renamed : (Fate → Judged) → Reply → Reply
 renamed name r = telling (nameOf name (r .answer .judged)) r
 
-abbrev firstForSame : Fate → Judged
-firstForSame First = Sample Same
-firstForSame Same = Sample First
-firstForSame Dead = Sample Dead
-firstForSame Forward = Sample Forward
-firstForSame Back = Sample Back
-firstForSame Stray = Sample Stray
-
-abbrev backForForward : Fate → Judged
-backForForward Forward = Sample Back
-backForForward Back = Sample Forward
-backForForward Dead = Sample Dead
-backForForward First = Sample First
-backForForward Same = Sample Same
-backForForward Stray = Sample Stray
-
-abbrev strayForDead : Fate → Judged
-strayForDead Dead = Sample Stray
-strayForDead First = Sample First
-strayForDead Same = Sample Same
-strayForDead Forward = Sample Forward
-strayForDead Back = Sample Back
-strayForDead Stray = Sample Stray
+-- two names exchanged
+abbrev exchanged : Fate → Fate → Fate → Judged
+exchanged a b f = cond (eqb (letterOf f) (letterOf a)) (Sample b) (cond (eqb (letterOf f) (letterOf b)) (Sample a) (Sample f))
 
 -- ---- replies that leave another Hall part
 
@@ -153,9 +133,9 @@ Row = Replies × List Call
 abbrev rows : List Row
 rows =
     -- names exchanged
-    (changed (λ d call. renamed firstForSame), fed (1 ∷ [])) ∷
-    (changed (λ d call. renamed backForForward), fed (1 ∷ 3 ∷ [])) ∷
-    (changed (λ d call. renamed strayForDead), fed (0 ∷ [])) ∷
+    (changed (λ d call. renamed (exchanged First Same)), fed (1 ∷ [])) ∷
+    (changed (λ d call. renamed (exchanged Forward Back)), fed (1 ∷ 3 ∷ [])) ∷
+    (changed (λ d call. renamed (exchanged Dead Stray)), fed (0 ∷ [])) ∷
     -- "a refused sample is not judged"; a tick and a load bring none
     (changed (λ d call r. cond (isCycle call && not (accepted r)) (telling (Sample Same) r) r), fed (8 ∷ [])) ∷
     (changed (λ d call r. cond (isCycle call) r (telling (Sample Same) r)), loaded ∷ low ∷ []) ∷
