@@ -11,7 +11,7 @@ const LONGEST_IMAGE: u16 = 2048;
 
 // Of a load it tells where in the record its numbers begin and how many they are; of a block load the block, and how many bytes its
 // image has.
-#[derive(Drop)]
+#[derive(Clone, Copy)]
 pub(crate) enum Found {
     End,
     Unknown,

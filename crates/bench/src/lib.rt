@@ -1,4 +1,5 @@
 // The library of `benchline`: every call that its records can ask for, and whole answers as lines of decimal numbers.
+#![tactic(auto)]
 mod find;
 mod line;
 mod numbered;
@@ -22,7 +23,7 @@ pub const OUTPUT_SIZE: usize = 1048576;
 
 // What a run has come to: the drive that it leaves, how many bytes of the input it took and of the output it wrote, and whether a line
 // `?` ended it.
-#[derive(Drop)]
+#[derive(Clone, Copy)]
 pub struct Ran {
     pub drive: Drive,
     pub taken: usize,

@@ -11,7 +11,7 @@ use drive::answer::Answer;
 use text::{put, put_decimal, put_signed};
 
 // What stands on a line so far.
-#[derive(Drop)]
+#[derive(Clone, Copy)]
 struct Page {
     bytes: [u8; LINE_ROOM],
     size: usize,

@@ -4,6 +4,7 @@ use mathlib.Core.List.{List}
 use Prim.Native.Nat.{ℕ}
 use Rattle.numbers.proofs.Reply.{OneReply, same}
 use Rattle.blocks.proofs as promises
+use Rattle.blocks.specs.contracts
 
-pub run : OneReply promises.run.ended promises.run.Reads.Post
+pub run : OneReply contracts.run.ended promises.run.Reads.Post
 run κs given r s p q = same (p.0 ∙⁻¹ q.0) (ap (λ (bytes : List ℕ). (tt, (tt, (bytes, tt)))) (p.1.0 ∙⁻¹ q.1.0))

@@ -9,7 +9,7 @@ use numbers::{byte_at, number_at};
 
 // Of R it tells the block and how many bytes the image has, of A the count, of W how many bytes are lent, what they hold, and how many
 // bytes the record has.
-#[derive(Drop)]
+#[derive(Clone, Copy)]
 pub(crate) enum Found {
     End,
     Unknown,
@@ -20,7 +20,7 @@ pub(crate) enum Found {
 }
 
 // What a walk over the blocks of W has met: a kind that is bad, and where the blocks end.
-#[derive(Drop)]
+#[derive(Clone, Copy)]
 struct Walked {
     bad: bool,
     place: usize,

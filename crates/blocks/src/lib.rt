@@ -1,4 +1,5 @@
 // The library of `blockline`: every call of `images` that its records can ask for, and whole answers as lines of decimal numbers.
+#![tactic(auto)]
 mod find;
 mod handed;
 mod line;
@@ -28,7 +29,7 @@ pub const INPUT_SIZE: usize = 3072;
 pub const OUTPUT_SIZE: usize = 4194304;
 
 // What a run has come to: how many bytes of the input it took and of the output it wrote, and whether a line `?` ended it.
-#[derive(Drop)]
+#[derive(Clone, Copy)]
 pub struct Ran {
     pub taken: usize,
     pub written: usize,

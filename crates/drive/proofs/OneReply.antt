@@ -3,27 +3,28 @@ use Rattle.std.proofs.Common.{refl}
 use mathlib.Core.Path.{◌∙⁻¹◌}
 use Rattle.numbers.proofs.Reply.{OneReply, same}
 use Rattle.drive.proofs as promises
+use Rattle.drive.specs.contracts
 
-pub power_up : OneReply promises.Drive.power_up.ended promises.Drive.power_up.Reads.Post
+pub power_up : OneReply contracts.Drive.power_up.ended promises.Drive.power_up.Reads.Post
 power_up κs given r s p q = same (p ∙⁻¹ q) refl
 
-pub load : OneReply promises.Drive.load.ended promises.Drive.load.Reads.Post
+pub load : OneReply contracts.Drive.load.ended promises.Drive.load.Reads.Post
 load κs given r s p q = same (p ∙⁻¹ q) refl
 
-pub load_settings : OneReply promises.Drive.load_settings.ended promises.Drive.load_settings.Reads.Post
+pub load_settings : OneReply contracts.Drive.load_settings.ended promises.Drive.load_settings.Reads.Post
 load_settings κs given r s p q = same (p ∙⁻¹ q) refl
 
-pub cycle : OneReply promises.Drive.cycle.ended promises.Drive.cycle.Reads.Post
+pub cycle : OneReply contracts.Drive.cycle.ended promises.Drive.cycle.Reads.Post
 cycle κs given r s p q = same (p ∙⁻¹ q) refl
 
-pub tick : OneReply promises.Drive.tick.ended promises.Drive.tick.Reads.Post
+pub tick : OneReply contracts.Drive.tick.ended promises.Drive.tick.Reads.Post
 tick κs given r s p q = same (p ∙⁻¹ q) refl
 
-pub answered : OneReply promises.answer.answered.ended promises.answer.answered.Reads.Post
+pub answered : OneReply contracts.answer.answered.ended promises.answer.answered.Reads.Post
 answered κs given r s p q = same (p ∙⁻¹ q) refl
 
-pub load_block : OneReply promises.Drive.load_block.ended promises.Drive.load_block.Reads.Post
+pub load_block : OneReply contracts.Drive.load_block.ended promises.Drive.load_block.Reads.Post
 load_block κs given r s p q = same (p ∙⁻¹ q) refl
 
-pub letter : OneReply promises.answer.Judged.letter.ended promises.answer.Judged.letter.Reads.Post
+pub letter : OneReply contracts.answer.Judged.letter.ended promises.answer.Judged.letter.Reads.Post
 letter κs given r s p q = same (p ∙⁻¹ q) refl

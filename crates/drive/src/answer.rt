@@ -11,13 +11,13 @@ use states::State;
 use verdicts::Verdict;
 
 // What became of the sample, in the answer to an accepted cycle; any other answer tells of no sample.
-#[derive(Drop)]
+#[derive(Clone, Copy)]
 pub enum Judged {
     Nothing,
     Sample(Fate),
 }
 
-#[derive(Drop)]
+#[derive(Clone, Copy)]
 pub struct Answer {
     pub number: u8,
     pub place: u8,
@@ -32,7 +32,7 @@ pub struct Answer {
     pub judged: Judged,
 }
 
-#[derive(Drop)]
+#[derive(Clone, Copy)]
 pub struct Reply {
     pub drive: Drive,
     pub answer: Answer,

@@ -1,4 +1,5 @@
 // The supervisor of one drive: its state, and the calls that change it.
+#![tactic(auto)]
 pub mod answer;
 mod blocks;
 mod calls;
@@ -20,7 +21,7 @@ use states::State;
 
 // The state of the drive. Its 24 settings stand as loaded, and beside them the sensors that setting 25 chose; no cycle and no tick
 // changes them.
-#[derive(Drop)]
+#[derive(Clone, Copy)]
 pub struct Drive {
     pub state: State,
     pub settings: [u16; SETTING_COUNT],

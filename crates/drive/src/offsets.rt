@@ -4,14 +4,14 @@ ghost use Rattle.drive.specs.Offsets.{added, measured_by, cleared};
 
 use std::num::wrapping_add_u32;
 
-#[derive(Drop)]
+#[derive(Clone, Copy)]
 pub struct Pair {
     pub first: u32,
     pub second: u32,
 }
 
 // Whether the offsets are measured, what they are, and the sums that they are made of.
-#[derive(Drop)]
+#[derive(Clone, Copy)]
 pub struct Offsets {
     pub measured: bool,
     pub value: Pair,

@@ -1,4 +1,6 @@
 // The fault word of a supervisor, how it is armed, and how FAULT is left. Nothing here knows which supervisor it is.
+#![tactic(auto)]
+
 ghost use Rattle.std.specs.Prelude.{cond, ◌&&◌, ◌||◌, not, ◌≡◌};
 ghost use Rattle.faults.specs.Word.{live};
 ghost use Rattle.faults.specs.Exit.{arms, from_fault, retried};
@@ -6,7 +8,7 @@ ghost use Rattle.faults.specs.Exit.{arms, from_fault, retried};
 use numbers::count_up;
 
 // How a tick leaves FAULT, if it does.
-#[derive(Drop)]
+#[derive(Clone, Copy)]
 pub enum Exit {
     Stay,
     Clear,

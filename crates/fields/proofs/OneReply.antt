@@ -2,9 +2,10 @@
 use mathlib.Core.Path.{refl, ◌∙⁻¹◌}
 use Rattle.numbers.proofs.Reply.{OneReply, same}
 use Rattle.fields.proofs as promises
+use Rattle.fields.specs.contracts
 
-pub cycle_verdict : OneReply promises.Cycle.verdict.ended promises.Cycle.verdict.Reads.Post
+pub cycle_verdict : OneReply contracts.Cycle.verdict.ended promises.Cycle.verdict.Reads.Post
 cycle_verdict κs given r s p q = same (p ∙⁻¹ q) refl
 
-pub tick_verdict : OneReply promises.Tick.verdict.ended promises.Tick.verdict.Reads.Post
+pub tick_verdict : OneReply contracts.Tick.verdict.ended promises.Tick.verdict.Reads.Post
 tick_verdict κs given r s p q = same (p ∙⁻¹ q) refl

@@ -1,4 +1,5 @@
 // What a cycle and a tick are told, and which of their fields is the first out of its range.
+#![tactic(auto)]
 ghost use Rattle.std.specs.Prelude.{◌≡◌};
 ghost use Rattle.verdicts.specs.Table.{verdict};
 ghost use Rattle.fields.specs.Fields.{cycle_fields, signed_fields, tick_fields};
@@ -6,14 +7,14 @@ ghost use Rattle.fields.specs.Fields.{cycle_fields, signed_fields, tick_fields};
 use numbers::absolute;
 use verdicts::{ACCEPTED, Verdict, first};
 
-#[derive(Drop)]
+#[derive(Clone, Copy)]
 pub struct Cycle {
     pub pattern: u8,
     pub first: u16,
     pub second: u16,
 }
 
-#[derive(Drop)]
+#[derive(Clone, Copy)]
 pub struct Tick {
     pub gate_kill: u8,
     pub clear: u8,

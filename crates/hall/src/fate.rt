@@ -6,7 +6,7 @@ ghost use Rattle.hall.specs.Fate.{fate, beside};
 use crate::layout::{Place, Sensors, place_of};
 
 // What became of a sample.
-#[derive(Drop)]
+#[derive(Clone, Copy)]
 pub enum Fate {
     Dead,
     First,
@@ -17,7 +17,7 @@ pub enum Fate {
 }
 
 // The kept pattern. None kept is no number: with two sensors 0 is a good pattern.
-#[derive(Drop)]
+#[derive(Clone, Copy)]
 pub enum Kept {
     Nothing,
     Pattern(u8),

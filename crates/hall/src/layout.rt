@@ -4,7 +4,7 @@ ghost use Rattle.hall.specs.declared.layout.Place.TheVariants.{Within};
 ghost use Rattle.hall.specs.Layout.{three, two, layout, sector_of, place_of};
 
 // The motor's sensors: H1, H2 and H3, or H1 and H2 only.
-#[derive(Drop)]
+#[derive(Clone, Copy)]
 pub enum Sensors {
     Three,
     Two,
@@ -12,7 +12,7 @@ pub enum Sensors {
 
 // A sector: the pattern before it and the next one, clockwise; in twelfths of a turn its middle and its boundary to the next sector; and
 // its width in counts of the position.
-#[derive(Drop)]
+#[derive(Clone, Copy)]
 pub(crate) struct Sector {
     pub(crate) behind: u8,
     pub(crate) ahead: u8,
@@ -22,7 +22,7 @@ pub(crate) struct Sector {
 }
 
 // Where a pattern stands.
-#[derive(Drop)]
+#[derive(Clone, Copy)]
 pub(crate) enum Place {
     Outside,
     Within(Sector),

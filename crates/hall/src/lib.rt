@@ -1,4 +1,6 @@
 // What one Hall sample says: its fate, and the next Hall part of the drive state.
+#![tactic(auto)]
+
 mod angle;
 pub mod fate;
 pub mod layout;
@@ -14,7 +16,7 @@ use layout::{Sensors, sector_of};
 use std::num::{wrapping_add_u32, wrapping_sub_u32};
 
 // The Hall part of the drive state.
-#[derive(Drop)]
+#[derive(Clone, Copy)]
 pub struct Hall {
     pub kept: Kept,
     pub position: u32,
@@ -35,7 +37,7 @@ pub const POWERED_UP: Hall = Hall {
 };
 
 // What a sample gives: the next Hall part, what became of the sample, and whether it sets flag 15.
-#[derive(Drop)]
+#[derive(Clone, Copy)]
 pub struct Sampled {
     pub hall: Hall,
     pub fate: Fate,

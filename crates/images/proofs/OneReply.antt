@@ -6,14 +6,15 @@ use contract.Lifetimes.{Lfts}
 use denote.Triple.Entry.{Args}
 use Rattle.numbers.proofs.Reply.{OneReply, Reply, Permits, same}
 use Rattle.images.proofs as promises
+use Rattle.images.specs.contracts
 
-pub verdict : OneReply promises.reader.verdict.ended promises.reader.verdict.Reads.Post
+pub verdict : OneReply contracts.reader.verdict.ended promises.reader.verdict.Reads.Post
 verdict κs given r s p q = same (p ∙⁻¹ q) refl
 
-pub write : OneReply promises.writer.write.ended promises.writer.write.Reads.Post
+pub write : OneReply contracts.writer.write.ended promises.writer.write.Reads.Post
 write κs given r s p q = same (p.0 ∙⁻¹ q.0) (ap (λ (bytes : List ℕ). (tt, (bytes, tt))) (p.1 ∙⁻¹ q.1))
 
-pub choose : OneReply promises.choice.choose.ended promises.choice.choose.Reads.Post
+pub choose : OneReply contracts.choice.choose.ended promises.choice.choose.Reads.Post
 choose κs given r s p q = same (p ∙⁻¹ q) refl
 
 -- Of a part of lent bytes a caller gets the bytes and where they lie: these are the same. A reference has a third part, the ghost name that
@@ -29,5 +30,5 @@ body κs given r s p q = (p.holds ∙⁻¹ q.holds, both (p.memory ∙⁻¹ q.me
     both : {a b : ℕ × ℕ} → a.0 ≡ b.0 → a.1 ≡ b.1 → a ≡ b
     both {a} {b} e f = rw (e, f)
 
-pub numbers_of : OneReply promises.reader.numbers_of.ended promises.reader.numbers_of.Reads.Post
+pub numbers_of : OneReply contracts.reader.numbers_of.ended promises.reader.numbers_of.Reads.Post
 numbers_of κs given r s p q = same (p ∙⁻¹ q) refl

@@ -5,7 +5,7 @@ ghost use Rattle.images.specs.Choice.{choice};
 
 use crate::BLOCKS;
 
-#[derive(Drop)]
+#[derive(Clone, Copy)]
 pub struct Choice {
     pub number: u8,
     pub place: u8,

@@ -1,4 +1,5 @@
 // Images of parameter blocks: the reader, the writer, and the analog choice of a block.
+#![tactic(auto)]
 pub mod choice;
 pub mod reader;
 pub mod writer;
@@ -13,7 +14,7 @@ pub(crate) const ENTRY_SIZE: usize = 5;
 pub const MOST_NUMBERS: usize = 25;
 
 // A block as the writer is handed it: empty, or filled with its first `count` numbers.
-#[derive(Drop)]
+#[derive(Clone, Copy)]
 pub struct Block {
     pub filled: bool,
     pub count: u8,

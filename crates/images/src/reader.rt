@@ -12,7 +12,7 @@ use numbers::{byte_at, number_at};
 use verdicts::{ACCEPTED, Verdict, first};
 
 // What the search for a block comes to: the number of its refusal or 0, and where in the image its body lies.
-#[derive(Drop)]
+#[derive(Clone, Copy)]
 pub(crate) struct Found {
     pub(crate) number: u8,
     pub(crate) start: usize,

@@ -12,7 +12,7 @@ use text::put;
 use verdicts::{ACCEPTED, Verdict, first};
 
 // Number and place of the refusal, or 0 and 0, and how many of the lent bytes are the image.
-#[derive(Drop)]
+#[derive(Clone, Copy)]
 pub struct Written {
     pub number: u8,
     pub place: u8,

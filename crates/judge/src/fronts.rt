@@ -5,7 +5,7 @@ ghost use Rattle.judge.specs.NextLine.{next_line};
 use bytes::scan::find;
 
 // How many bytes the line has, and whether its line feed is among them.
-#[derive(Drop)]
+#[derive(Clone, Copy)]
 pub(crate) struct Next {
     pub size: usize,
     pub whole: bool,

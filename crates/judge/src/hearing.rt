@@ -13,7 +13,7 @@ use records::{CYCLE_SIZE, Found, TICK_SIZE, load_size, settings_at};
 use settings::ALL_SETTINGS;
 
 // How it ends the judgement, and how many bytes it has.
-#[derive(Drop)]
+#[derive(Clone, Copy)]
 pub(crate) struct Heard {
     pub reply: Reply,
     pub onlooker: Onlooker,

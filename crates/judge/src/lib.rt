@@ -1,4 +1,5 @@
 // The judge of a board: he holds the lines that it printed against what the supervisor answers to the same records, and against demand 3.
+#![tactic(auto)]
 mod entries;
 mod fronts;
 mod hearing;
@@ -19,7 +20,7 @@ use report::LINE_LENGTH;
 // The supervisor that answers the records, and the onlooker who hears them with the board's own answers. The first record whose line is
 // not the supervisor's, 0 for none, with the line that it should have and the one that it has. The first record after which a rule of
 // demand 3 is broken, 0 for none, and which rules held. How it ended.
-#[derive(Drop)]
+#[derive(Clone, Copy)]
 pub struct Judge {
     pub drive: Drive,
     pub onlooker: Onlooker,
@@ -32,7 +33,7 @@ pub struct Judge {
 }
 
 // What a run has come to: the judge, how many bytes of the records and of the lines he took, and what he wants next.
-#[derive(Drop)]
+#[derive(Clone, Copy)]
 pub struct Ran {
     pub judge: Judge,
     pub taken: usize,

@@ -22,7 +22,7 @@ use text::{put, put_column, put_decimal};
 pub const VERDICT_SIZE: usize = 1024;
 
 // What is said so far.
-#[derive(Drop)]
+#[derive(Clone, Copy)]
 struct Page {
     bytes: [u8; VERDICT_SIZE],
     size: usize,

@@ -2,6 +2,7 @@
 use mathlib.Core.Path.{refl, ◌∙⁻¹◌}
 use Rattle.numbers.proofs.Reply.{OneReply, same}
 use Rattle.lines.proofs as promises
+use Rattle.lines.specs.contracts
 
-pub read : OneReply promises.read.ended promises.read.Reads.Post
+pub read : OneReply contracts.read.ended promises.read.Reads.Post
 read κs given r s p q = same (p ∙⁻¹ q) refl

@@ -1,4 +1,5 @@
 // Reads a report line back, for whoever has only the lines of a board, of today or of earlier.
+#![tactic(auto)]
 mod fields_in;
 mod values;
 
@@ -17,7 +18,7 @@ pub const EARLIER_LENGTH: usize = 45;
 pub const FIELDS_LENGTH: usize = 44;
 
 // What a line shows, and all 0 where it is no line that an answer has.
-#[derive(Drop)]
+#[derive(Clone, Copy)]
 pub struct Shown {
     pub good: bool,
     pub number: u8,

@@ -1,17 +1,18 @@
 // What runs while the motor does: the counts of bits 4, 7 and 14, and the speed reference.
+#![tactic(auto)]
 mod choose;
 mod counts;
 mod reference;
 
 // The flux slots: ticks of the present slot, whether one of them was bad, and bad slots in a row.
-#[derive(Drop)]
+#[derive(Clone, Copy)]
 pub struct Slots {
     pub ticks: u32,
     pub bad: bool,
     pub bad_slots: u32,
 }
 
-#[derive(Drop)]
+#[derive(Clone, Copy)]
 pub struct Run {
     pub slots: Slots,
     pub rotor_lock_ticks: u32,
@@ -20,7 +21,7 @@ pub struct Run {
 }
 
 // The three counts after a tick, and which of their causes stand.
-#[derive(Drop)]
+#[derive(Clone, Copy)]
 pub struct Watched {
     pub slots: Slots,
     pub rotor_lock_ticks: u32,

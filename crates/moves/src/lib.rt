@@ -1,4 +1,5 @@
 // The moves: at most one a tick, by the state before it.
+#![tactic(auto)]
 ghost use Rattle.std.specs.Prelude.{cond, ◌≡◌, ◌*◌};
 ghost use Rattle.states.specs.declared.State.TheVariants.{Fault};
 ghost use Rattle.moves.specs.Moves.{from_stop, from_offset_cal, from_bts_charge, from_catch_spin, from_angle_sensing};
@@ -13,7 +14,7 @@ use settings::{
 use states::State;
 
 // What a tick does to the state: stay, enter another, end OFFSETCAL with the offsets measured, or leave FAULT.
-#[derive(Drop)]
+#[derive(Clone, Copy)]
 pub enum Move {
     Stay,
     Enter(State),
@@ -23,7 +24,7 @@ pub enum Move {
 }
 
 // What a move is decided by.
-#[derive(Drop)]
+#[derive(Clone, Copy)]
 pub struct Grounds {
     pub state: State, // before the tick
     pub settings: [u16; SETTING_COUNT],

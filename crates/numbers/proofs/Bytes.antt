@@ -21,6 +21,7 @@ length-numbers (suc count) at bytes = ap suc (length-numbers count (at + 2) byte
 pub number_at : (count at : ℕ) (bytes : List ℕ) (k : ℕ) → k < count
     → number (at + 2 * k) bytes ≡ get_or (numbers count at bytes) k 0
 unfolding numbers
+number_at zero at bytes k below = elim below [ ]
 number_at (suc count) at bytes zero below = ap (λ (place : ℕ). number place bytes) (omega arith)
 number_at (suc count) at bytes (suc k) below =
     ap (λ (place : ℕ). number place bytes) (omega arith) ∙ number_at count (at + 2) bytes k (omega arith)

@@ -2,24 +2,26 @@
 use mathlib.Core.Path.{refl, ◌∙⁻¹◌}
 use Rattle.numbers.proofs.Reply.{OneReply, same}
 use Rattle.numbers.proofs as promises
+use Rattle.numbers.specs.contracts
+use Rattle.numbers.specs.contracts
 
-pub count_up : OneReply promises.count_up.ended promises.count_up.Reads.Post
+pub count_up : OneReply contracts.count_up.ended promises.count_up.Reads.Post
 count_up κs given r s p q = same (p ∙⁻¹ q) refl
 
-pub signed : OneReply promises.signed.ended promises.signed.Reads.Post
+pub signed : OneReply contracts.signed.ended promises.signed.Reads.Post
 signed κs given r s p q = same (p ∙⁻¹ q) refl
 
-pub absolute : OneReply promises.absolute.ended promises.absolute.Reads.Post
+pub absolute : OneReply contracts.absolute.ended promises.absolute.Reads.Post
 absolute κs given r s p q = same (p ∙⁻¹ q) refl
 
-pub limited : OneReply promises.limited.ended promises.limited.Reads.Post
+pub limited : OneReply contracts.limited.ended promises.limited.Reads.Post
 limited κs given r s p q = same (p ∙⁻¹ q) refl
 
-pub byte_at : OneReply promises.byte_at.ended promises.byte_at.Reads.Post
+pub byte_at : OneReply contracts.byte_at.ended promises.byte_at.Reads.Post
 byte_at κs given r s p q = same (p ∙⁻¹ q) refl
 
-pub number_at : OneReply promises.number_at.ended promises.number_at.Reads.Post
+pub number_at : OneReply contracts.number_at.ended promises.number_at.Reads.Post
 number_at κs given r s p q = same (p ∙⁻¹ q) refl
 
-pub word_of : OneReply promises.word_of.ended promises.word_of.Reads.Post
+pub word_of : OneReply contracts.word_of.ended promises.word_of.Reads.Post
 word_of κs given r s p q = same (p ∙⁻¹ q) refl

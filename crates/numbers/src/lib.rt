@@ -1,4 +1,6 @@
 // What the crates above need of machine numbers and the kit's std does not have. Each call takes any value.
+#![tactic(auto)]
+
 ghost use Rattle.std.specs.Prelude.{◌≡◌, ◌+◌, ◌*◌, nat_abs};
 ghost use Rattle.std.specs.Int.{w16};
 ghost use Rattle.std.proofs.Common.{to_z};

@@ -1,4 +1,5 @@
 // The onlooker of demand 3 as code: he takes each call with its answer and says what happened and, at a start, by what.
+#![tactic(auto)]
 mod notes;
 pub mod past;
 pub mod plug;
@@ -21,7 +22,7 @@ use words::is_dead;
 
 // What he remembers: the numbers of the last accepted load, the state that the last answer showed, the accepted ticks in FAULT (he
 // stops at 10,000), and the dead samples in a row.
-#[derive(Drop)]
+#[derive(Clone, Copy)]
 pub struct Memory {
     pub numbers: [u16; ALL_SETTINGS],
     pub shown: u8,
@@ -31,7 +32,7 @@ pub struct Memory {
 
 // His memory, his note of the newest call, what he keeps of all his notes, whether the demand held after the newest call, and what
 // the sentences need beside it.
-#[derive(Drop)]
+#[derive(Clone, Copy)]
 pub struct Onlooker {
     pub memory: Memory,
     pub seen: Seen,

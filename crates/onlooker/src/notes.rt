@@ -14,7 +14,7 @@ use settings::{ALL_SETTINGS, RETRY_LIMIT};
 const WAIT: u32 = 10000;
 
 // What an accepted call asks: it is a load, or a tick; the tick's command, its clear, and whether its fields tell a live cause.
-#[derive(Drop)]
+#[derive(Clone, Copy)]
 pub(crate) struct Asked {
     pub(crate) loaded: bool,
     pub(crate) ticked: bool,

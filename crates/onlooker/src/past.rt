@@ -5,7 +5,7 @@ ghost use Rattle.theorems_history.specs.History.{no_load_nor_start, none_of_thes
 ghost use Rattle.onlooker.specs.Past.{most, note_of, permits, next, rules};
 
 // His note of one call and its answer, as the history's rule names it.
-#[derive(Drop)]
+#[derive(Clone, Copy)]
 pub struct Seen {
     pub loaded: bool,
     pub low: bool,
@@ -23,7 +23,7 @@ pub struct Seen {
 
 // How many calls he heard; a load was accepted; the record of the low, and of the timed retry, that permits the next start, 0 for
 // none; the retries counted; a live fault stands; a start was taken and nothing ended it; what came before the last start permitted it.
-#[derive(Drop)]
+#[derive(Clone, Copy)]
 pub struct Past {
     pub heard: u64,
     pub loaded: bool,
@@ -36,7 +36,7 @@ pub struct Past {
 }
 
 // Which of the demand's three rules hold after the newest call.
-#[derive(Drop)]
+#[derive(Clone, Copy)]
 pub struct Rules {
     pub gates: bool,
     pub exit: bool,

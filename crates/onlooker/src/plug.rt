@@ -7,7 +7,7 @@ use drive::answer::Answer;
 
 // The dead and the stray samples since the last accepted load, and how many of either came in a row up to the newest sample. Whether the
 // last answer showed bit 15, and the pattern of the call that lit it.
-#[derive(Drop)]
+#[derive(Clone, Copy)]
 pub struct Plug {
     pub dead: u64,
     pub stray: u64,

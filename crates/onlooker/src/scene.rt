@@ -8,7 +8,7 @@ use drive::answer::Answer;
 
 // Gates and live word of the last answer; the record that lit the live word, 0 while it is dark; whether it was two dead samples that lit
 // bit 15; the records of the last trip and of the last accepted tick that held a low, 0 for none.
-#[derive(Drop)]
+#[derive(Clone, Copy)]
 pub struct Scene {
     pub gate: u8,
     pub live: u16,

@@ -9,7 +9,7 @@ use drive::answer::Answer;
 use fields::{Cycle, Tick};
 use settings::ALL_SETTINGS;
 
-#[derive(Drop)]
+#[derive(Clone, Copy)]
 pub struct Heard {
     pub drive: Drive,
     pub onlooker: Onlooker,

@@ -1,5 +1,6 @@
 // A stream that is read in pieces: what every program that answers records does with its buffers. The unanswered bytes go to the front,
 // the next piece is read behind them, and a call that fails is told on standard error.
+#![tactic(auto)]
 ghost use Rattle.std.specs.Prelude.{true, ◌≡◌, ◌++◌, min, length, drop};
 ghost use Rattle.pieces.specs.Between.{between};
 ghost use Rattle.pieces.specs.Reads.{Reads};
@@ -38,7 +39,7 @@ fn tell(what: &[u8]) {
 }
 
 // What one read brought. None without a failure is the end of the input.
-#[derive(Drop)]
+#[derive(Clone, Copy)]
 pub struct Piece {
     pub brought: usize,
     pub failed: bool,

@@ -1,5 +1,6 @@
 // The program: it reads records from standard input and writes a line for each to standard output. What stands in its buffer is
 // answered by `blocks::run`; here is only the moving of bytes, by `pieces`.
+#![tactic(auto)]
 ghost use Rattle.std.specs.Prelude.{true, ◌≡◌, ◌≤◌, length};
 ghost use Rattle.blocks.specs.Blockline.{input_size, output_size};
 ghost use Rattle.program_blockline.specs.Rest.{Rest, ReadOn};
@@ -9,7 +10,7 @@ use pieces::{move_to_front, read_behind, write_out};
 
 // What the program holds from one read to the next: how many bytes at the front of the buffer are not answered yet, and whether there
 // is to be a next read.
-#[derive(Drop)]
+#[derive(Clone, Copy)]
 struct Held {
     count: usize,
     going: bool,

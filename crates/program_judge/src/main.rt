@@ -1,6 +1,7 @@
 // The program: records by standard input, and the lines that a board printed for them by descriptor 3, or from the file that the first
 // argument names. What stands in its buffers is judged by `judge::run`; here is only the moving of bytes. At the end it says what the
 // judge has to say.
+#![tactic(auto)]
 ghost use Rattle.std.specs.Prelude.{◌≡◌, ◌≤◌, length};
 ghost use Rattle.program_judge.specs.Rest.{Rest, Kept};
 
@@ -17,7 +18,7 @@ const FAILED: u8 = 4;
 
 // What the program holds from one read to the next: the judge, how many bytes at the front of each buffer are not judged yet, whether more
 // of each may come, and what is wanted next.
-#[derive(Drop)]
+#[derive(Clone, Copy)]
 struct Held {
     judge: Judge,
     count: usize,

@@ -1,5 +1,6 @@
 // The program: it reads records from standard input and writes a line for each to standard output. What stands in its buffer is
 // answered by `records::run`; here is only the moving of bytes, by `pieces`.
+#![tactic(auto)]
 ghost use Rattle.std.specs.Prelude.{true, ◌≡◌, ◌≤◌, length};
 ghost use Rattle.records.specs.Run.{input_size, output_size};
 ghost use Rattle.program_shiftline.specs.Rest.{Rest, ReadOn};
@@ -10,7 +11,7 @@ use records::{INPUT_SIZE, OUTPUT_SIZE, run};
 
 // What the program holds from one read to the next: the drive, how many bytes at the front of the buffer are not answered yet, and
 // whether there is to be a next read.
-#[derive(Drop)]
+#[derive(Clone, Copy)]
 struct Held {
     drive: Drive,
     count: usize,

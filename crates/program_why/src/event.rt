@@ -18,7 +18,7 @@ const TICK: u8 = 3;
 // limit; the records of the low and of the retry that permit a start, whether one was permitted, the retries counted; the last low and
 // the last trip before it; the record that lit the live word, and whether dead samples lit bit 15; live word and gates, before and after; a
 // cycle's pattern, and what the answers tell of the plug, before and after.
-#[derive(Drop)]
+#[derive(Clone, Copy)]
 pub(crate) struct Event {
     pub(crate) nth: u64,
     pub(crate) kind: u8,

@@ -1,5 +1,6 @@
 // The program `why`: it reads records as shiftline does, and says in sentences what matters of them. The supervisor answers each record,
 // the onlooker of demand 3 hears each call with its answer; the rest is words, and the moving of bytes.
+#![tactic(auto)]
 mod event;
 mod happened;
 mod hear;

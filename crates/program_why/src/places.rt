@@ -6,7 +6,7 @@ use records::OUTPUT_SIZE;
 
 // How many bytes of the input are filled, and how many of these are taken; where the next sentence goes; whether no more input will
 // come, and whether the run has ended.
-#[derive(Drop)]
+#[derive(Clone, Copy)]
 pub(crate) struct Places {
     pub(crate) filled: usize,
     pub(crate) taken: usize,

@@ -3,7 +3,7 @@ use crate::words::{COMMA, NO_WORD, NOTHING, bit_word, put_line, put_word};
 use text::put;
 
 // The row that says it and the row's numbers; the word behind it, or the bits of a live word with what lit bit 15, and by which pattern.
-#[derive(Drop)]
+#[derive(Clone, Copy)]
 pub(crate) struct Sentence {
     pub(crate) row: u8,
     pub(crate) first: u64,

@@ -1,4 +1,5 @@
 // The records of the program: what the bytes of its input ask for, and the run over a buffer of them.
+#![tactic(auto)]
 mod answers;
 mod decoded;
 
@@ -39,7 +40,7 @@ pub const OUTPUT_SIZE: usize = 65536;
 
 // What a run has come to: the drive that it leaves, how many bytes of the input it took and of the output it wrote, and whether a
 // line with number 6 ended it.
-#[derive(Drop)]
+#[derive(Clone, Copy)]
 pub struct Ran {
     pub drive: Drive,
     pub taken: usize,
@@ -49,7 +50,7 @@ pub struct Ran {
 
 // What stands at a place of the input. A whole record is handed on as the call that it asks for; no enum holds an array, so of a load
 // it tells how many its numbers are, which are still to be read off its bytes.
-#[derive(Drop)]
+#[derive(Clone, Copy)]
 pub enum Found {
     End,
     Unknown,

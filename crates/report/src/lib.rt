@@ -1,4 +1,5 @@
 // The report line of an answer, written into bytes that the caller lends.
+#![tactic(auto)]
 mod put;
 mod write;
 

@@ -2,9 +2,10 @@
 use mathlib.Core.Path.{refl, ◌∙⁻¹◌}
 use Rattle.numbers.proofs.Reply.{OneReply, same}
 use Rattle.settings.proofs as promises
+use Rattle.settings.specs.contracts
 
-pub verdict : OneReply promises.verdict.ended promises.verdict.Reads.Post
+pub verdict : OneReply contracts.verdict.ended promises.verdict.Reads.Post
 verdict κs given r s p q = same (p ∙⁻¹ q) refl
 
-pub samples : OneReply promises.samples.ended promises.samples.Reads.Post
+pub samples : OneReply contracts.samples.ended promises.samples.Reads.Post
 samples κs given r s p q = same (p ∙⁻¹ q) refl

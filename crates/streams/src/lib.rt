@@ -1,1 +1,2 @@
 // Definitions and theorems, no code.
+#![tactic(auto)]

@@ -1,5 +1,6 @@
 // Runs a stored stream of records in one call and prints its lines. The stream is generated, and the lines that it is held to are the
 // independent model's: a fixed part of what tools/compare compares.
+#![tactic(auto)]
 use drive::Drive;
 use libc::{STDIN_FILENO, STDOUT_FILENO};
 use records::run;

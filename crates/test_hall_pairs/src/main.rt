@@ -1,6 +1,7 @@
 // Runs one sample of each pattern against each kept pattern, with three sensors (0 to 7 against none and 1 to 6) and with two (0 to 3
 // against none and 0 to 3), and prints a line for each pair: sensors, pattern, kept pattern (. for none), fate, position after and angle
 // after. The Hall part starts at position 0 and at angle 1, which no pattern gives, and the offset is 0.
+#![tactic(auto)]
 ghost use Rattle.std.specs.Prelude.{◌<◌};
 
 use hall::Hall;

@@ -1,4 +1,5 @@
 // Calls the line writer and prints what happened: number, place and the lent bytes, each of which is a '#' before the call.
+#![tactic(auto)]
 use drive::answer::{Answer, Judged};
 use drive::offsets::Pair;
 use hall::fate::Fate;

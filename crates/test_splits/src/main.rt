@@ -1,5 +1,6 @@
 // Runs the stored records once whole and once in two parts for every place where they can be split, with the drive handed on, and
 // compares the lines. It prints the lines of the whole run, and how many splits there were and how many gave other lines.
+#![tactic(auto)]
 ghost use Rattle.std.specs.Prelude.{◌≤◌, length};
 
 use check::same;

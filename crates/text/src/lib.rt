@@ -1,5 +1,7 @@
 // Texts written into lent bytes. Each writer puts what fits from a place on, touches no other byte, and tells the place behind it, so
 // that a sentence is a chain of calls.
+#![tactic(auto)]
+
 ghost use Rattle.std.specs.Prelude.{◌≡◌, ◌-◌, min};
 ghost use Rattle.text.specs.Put.{behind, written};
 ghost use Rattle.text.specs.Decimal.{decimal, signed_decimal, column};

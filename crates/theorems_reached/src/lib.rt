@@ -1,1 +1,2 @@
 // No code: definitions and theorems about the states that sequences of calls reach.
+#![tactic(auto)]

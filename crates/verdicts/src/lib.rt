@@ -1,8 +1,10 @@
 // What a call is told of its refusal: the number and the place of the first row of a table that holds, or 0 and 0.
+#![tactic(auto)]
+
 ghost use Rattle.std.specs.Prelude.{◌≡◌};
 ghost use Rattle.verdicts.specs.Table.{row, first};
 
-#[derive(Drop)]
+#[derive(Clone, Copy)]
 pub struct Verdict {
     pub number: u8,
     pub place: u8,
