@@ -1,5 +1,6 @@
 // What a cycle and a tick are told, and which of their fields is the first out of its range.
 #![tactic(auto)]
+
 ghost use Rattle.std.specs.Prelude.{◌≡◌};
 ghost use Rattle.verdicts.specs.Table.{verdict};
 ghost use Rattle.fields.specs.Fields.{cycle_fields, signed_fields, tick_fields};

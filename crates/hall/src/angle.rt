@@ -12,6 +12,7 @@ const TWELFTHS: [i16; 12] = [
     0, 5461, 10922, 16384, 21845, 27306, -32768, -27307, -21846, -16384, -10923, -5462,
 ];
 
+#[tactic(auto, unfolding(crate::specs::Angle::twelfth))]
 fn twelfth(k: usize) -> i16
     ensures { result ≡ twelfth k }
 {
@@ -30,6 +31,7 @@ fn bits(number: i16) -> u16
 }
 
 // The sum of the bits of angle and offset, which wraps. A difference in its place is what cost the customer yarn.
+#[tactic(auto, unfolding(crate::specs::Angle::with_offset))]
 fn with_offset(angle: i16, offset: i16) -> i16
     ensures { result ≡ with_offset angle offset }
 {

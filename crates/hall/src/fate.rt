@@ -32,6 +32,7 @@ pub fn judged(sensors: Sensors, pattern: u8, kept: Kept) -> Fate
     }
 }
 
+#[tactic(auto, unfolding(crate::specs::Fate::beside))]
 fn between(behind: u8, here: u8, ahead: u8, kept: Kept) -> Fate
     ensures { result ≡ beside behind here ahead kept }
 {

@@ -40,6 +40,7 @@ fn within(behind: u8, ahead: u8, middle: usize, boundary: usize, width: u32) -> 
     })
 }
 
+#[tactic(auto, unfolding(crate::specs::Layout::place_of))]
 fn among_three(pattern: u8) -> Place
     ensures { result ≡ place_of three pattern }
 {
@@ -54,6 +55,7 @@ fn among_three(pattern: u8) -> Place
     }
 }
 
+#[tactic(auto, unfolding(crate::specs::Layout::place_of))]
 fn among_two(pattern: u8) -> Place
     ensures { result ≡ place_of two pattern }
 {

@@ -73,6 +73,7 @@ fn number(kept: Kept) -> u8
 
 impl Hall {
     // One sample: any pattern, against any Hall part.
+    #[tactic(auto, unfolding(crate::specs::Sample::sampled))]
     pub fn sampled(self, sensors: Sensors, pattern: u8, offset: i16) -> Sampled
         ensures { result ≡ sampled sensors self pattern offset }
     {
@@ -116,6 +117,7 @@ impl Hall {
         keeps(Fate::Back, pattern, position, angle)
     }
 
+    #[tactic(auto, unfolding(crate::specs::Sample::dead_sample))]
     fn dead_sample(self) -> Sampled
         ensures { result ≡ dead_sample self }
     {
@@ -127,6 +129,7 @@ impl Hall {
         self.rests(Fate::Dead, kept, dead, 0, false)
     }
 
+    #[tactic(auto, unfolding(crate::specs::Sample::stray_sample))]
     fn stray_sample(self) -> Sampled
         ensures { result ≡ stray_sample self }
     {

@@ -1,5 +1,6 @@
 // The settings: which of them breaks its rule first.
 #![tactic(auto)]
+
 ghost use Rattle.std.specs.Prelude.{◌≡◌, ◌<◌};
 ghost use Rattle.verdicts.specs.Table.{verdict};
 ghost use Rattle.settings.specs.Settings.{all_settings, samples};

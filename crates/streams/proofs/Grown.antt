@@ -70,8 +70,14 @@ module _
         go : (f g : Front R) → Grown p.size_of ReadOff (most_of a) a f g → f ≡ unknown → g ≡ unknown
         go end g (no_byte _) e = never (cc)
         go unknown unknown no_record e = refl
+        go unknown end x3 e = elim x3 [ ]
+        go unknown short x4 e = elim x4 [ ]
+        go unknown (whole _) x6 e = elim x6 [ ]
         go short g (a_part _) e = never (cc)
         go (whole _) (whole _) (a_record _ _ _) e = never (cc)
+        go (whole _) end x5 e = elim x5 [ ]
+        go (whole _) unknown x6 e = elim x6 [ ]
+        go (whole _) short x7 e = elim x7 [ ]
 
     pub still_whole : (a b : List ℕ) (r : R) → p.front a ≡ whole r → p.front (a ++ b) ≡ whole r
     still_whole a b r is = go (p.front a) (p.front (a ++ b)) (grown a b) is
@@ -79,5 +85,11 @@ module _
         go : (f g : Front R) → Grown p.size_of ReadOff (most_of a) a f g → f ≡ whole r → g ≡ whole r
         go end g (no_byte _) e = never (cc)
         go unknown unknown no_record e = never (cc)
+        go unknown end x3 e = elim x3 [ ]
+        go unknown short x4 e = elim x4 [ ]
+        go unknown (whole _) x6 e = elim x6 [ ]
         go short g (a_part _) e = never (cc)
         go (whole _) (whole _) (a_record _ _ _) e = e
+        go (whole _) end x5 e = elim x5 [ ]
+        go (whole _) unknown x6 e = elim x6 [ ]
+        go (whole _) short x7 e = elim x7 [ ]
