@@ -71,6 +71,7 @@ fn locked(settings: [u16; SETTING_COUNT], tick: Tick) -> bool
 
 impl Run {
     // One tick taken in MOTORRUN.
+    #[tactic(auto, unfolding(crate::specs::Counts::watched))]
     pub fn watched(self, settings: [u16; SETTING_COUNT], tick: Tick, still_count: u32) -> Watched
         ensures { result ≡ watched settings tick still_count self }
     {

@@ -1,5 +1,6 @@
 // What runs while the motor does: the counts of bits 4, 7 and 14, and the speed reference.
 #![tactic(auto)]
+
 mod choose;
 mod counts;
 mod reference;

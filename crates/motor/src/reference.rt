@@ -15,6 +15,7 @@ fn times_2048(number: i32) -> i32
     number * 2048
 }
 
+#[tactic(auto, unfolding(crate::specs::Reference::target0))]
 fn target_0(minimum: u16, target: i16) -> i32
     ensures value { result ≡ target0 minimum target }
     ensures small { mag result < 65536 }
@@ -43,6 +44,7 @@ fn target_1(minimum: u16, start: u16, gain: u16, control: u16) -> u32
 }
 
 // The target of the ramp, in both modes.
+#[tactic(auto, unfolding(crate::specs::Reference::target_of))]
 fn target(settings: [u16; SETTING_COUNT], tick: Tick) -> i32
     ensures value { result ≡ target_of settings tick }
     ensures small { mag result < 65536 }
@@ -59,6 +61,7 @@ fn target(settings: [u16; SETTING_COUNT], tick: Tick) -> i32
 }
 
 // The reference moved toward the target by at most the rate, without passing it.
+#[tactic(auto, unfolding(crate::specs::Reference::toward))]
 fn toward(rate: u16, target: i32, reference: i32) -> i32
     ensures { result ≡ toward rate target reference }
 {

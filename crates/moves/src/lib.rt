@@ -1,5 +1,6 @@
 // The moves: at most one a tick, by the state before it.
 #![tactic(auto)]
+
 ghost use Rattle.std.specs.Prelude.{cond, ◌≡◌, ◌*◌};
 ghost use Rattle.states.specs.declared.State.TheVariants.{Fault};
 ghost use Rattle.moves.specs.Moves.{from_stop, from_offset_cal, from_bts_charge, from_catch_spin, from_angle_sensing};
@@ -161,6 +162,7 @@ impl Grounds {
         }
     }
 
+    #[tactic(auto, unfolding(crate::specs::Moves::move_of))]
     pub fn move_of(self) -> Move
         ensures { result ≡ move_of self }
     {
