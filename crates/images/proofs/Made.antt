@@ -122,6 +122,7 @@ length-handing block (suc n) k = ap suc (length-handing block n (suc k))
 
 handing_at : (block : ℕ → Block) (n k i : ℕ) → i < n → get_or (handing block n k) i no_block ≡ block (k + i)
 unfolding handing
+handing_at block zero k i below = elim below [ ]
 handing_at block (suc n) k zero below = ap block (omega arith)
 handing_at block (suc n) k (suc i) below = handing_at block n (suc k) i (omega arith) ∙ ap block (omega arith)
 

@@ -20,10 +20,10 @@ choose κs given r s p q = same (p ∙⁻¹ q) refl
 -- Of a part of lent bytes a caller gets the bytes and where they lie: these are the same. A reference has a third part, the ghost name that
 -- the proof gives to its value; no program can ask for it, and no promise speaks of it.
 pub body :
-    (κs : Lfts (promises.reader.body.ended).signature.lifetimes) (given : Args (promises.reader.body.ended).signature κs)
-    (r s : Reply promises.reader.body.ended κs given)
-    → Permits promises.reader.body.ended κs given promises.reader.body.Reads.Post r
-    → Permits promises.reader.body.ended κs given promises.reader.body.Reads.Post s
+    (κs : Lfts (contracts.reader.body.ended).signature.lifetimes) (given : Args (contracts.reader.body.ended).signature κs)
+    (r s : Reply contracts.reader.body.ended κs given)
+    → Permits contracts.reader.body.ended κs given promises.reader.body.Reads.Post r
+    → Permits contracts.reader.body.ended κs given promises.reader.body.Reads.Post s
     → (r.result.now ≡ s.result.now) × (r.result.ref_ptr ≡ s.result.ref_ptr)
 body κs given r s p q = (p.holds ∙⁻¹ q.holds, both (p.memory ∙⁻¹ q.memory) (p.place ∙⁻¹ q.place))
   where

@@ -37,6 +37,7 @@ pub row_at :
     → 0 < place
     → place ≤ length blocks
     → from blocks later (place - 1) ≡ first (row 2 place (other_length (get_or blocks (place - 1) no_block))) (from blocks later place)
+row_at blocks later zero some within = elim some [ ]
 row_at blocks later (suc k) some within =
     let before : suc k - 1 ≡ k = omega arith in rw (before, one_more blocks later k within, add-one k)
 

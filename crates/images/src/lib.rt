@@ -1,5 +1,6 @@
 // Images of parameter blocks: the reader, the writer, and the analog choice of a block.
 #![tactic(auto)]
+
 pub mod choice;
 pub mod reader;
 pub mod writer;
