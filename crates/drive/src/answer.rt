@@ -91,6 +91,7 @@ fn reported(reference: i32) -> i16
 }
 
 // What the state shows under a number and a place, with what was judged.
+#[tactic(auto, unfolding(crate::specs::Answer::answer_telling))]
 fn telling(judged: Judged, drive: Drive, number: u8, place: u8) -> Answer
     ensures { result ≡ answer_telling judged number place drive }
 {

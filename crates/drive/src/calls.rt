@@ -159,6 +159,7 @@ impl Drive {
         }
     }
 
+    #[tactic(auto, unfolding(crate::specs::Calls::cycled, crate::specs::Calls::cycle))]
     pub fn cycle(self, fields: Cycle) -> Reply
         ensures { result ≡ cycle self fields }
     {

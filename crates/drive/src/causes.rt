@@ -31,6 +31,7 @@ const HALL_TIMEOUT: u16 = 16384; // bit 14
 
 pub(crate) const HALL_PATTERN: u16 = 32768; // bit 15
 
+#[tactic(auto, unfolding(crate::specs::Causes::causes))]
 pub(crate) fn causes(
     settings: [u16; SETTING_COUNT],
     running: bool,

@@ -1,5 +1,6 @@
 // The supervisor of one drive: its state, and the calls that change it.
 #![tactic(auto)]
+
 pub mod answer;
 mod blocks;
 mod calls;

@@ -118,6 +118,7 @@ impl Drive {
         }
     }
 
+    #[tactic(auto, unfolding(crate::specs::Ticks::ticked))]
     fn ticked(self, tick: Tick) -> Drive
         ensures { result ≡ ticked self tick }
     {
@@ -148,6 +149,7 @@ impl Drive {
         self.moved(tick, watched, raised, armed, nth, grounds.move_of())
     }
 
+    #[tactic(auto, unfolding(crate::specs::Ticks::tick))]
     pub fn tick(self, fields: Tick) -> Reply
         ensures { result ≡ tick self fields }
     {
