@@ -1,5 +1,6 @@
 -- The page of the bench programs, "blockline: images": its table of records.
-use Rattle.std.specs.Prelude.{Bool, false, ◌||◌, cond, ℕ, zero, suc, ◌+◌, ◌*◌, min, List, [], ◌∷◌, ◌++◌, eqb, ltb, length, take, drop, replicate}
+use Rattle.std.specs.Prelude.{Bool, false, ◌||◌, cond, ℕ, zero, suc, ◌+◌, ◌*◌, min}
+use Rattle.std.specs.Prelude.{List, [], ◌∷◌, ◌++◌, eqb, ltb, length, take, drop, replicate}
 use Prim.Native.Char.{code}
 use Rattle.images.specs.declared.Block.{Block}
 use Rattle.numbers.specs.Bytes.{byte, number, numbers}

@@ -1,5 +1,6 @@
 // The library of `blockline`: every call of `images` that its records can ask for, and whole answers as lines of decimal numbers.
 #![tactic(auto)]
+
 mod find;
 mod handed;
 mod line;

@@ -1,5 +1,6 @@
 -- As many bytes as fit are what is written.
-use Rattle.std.proofs.Common.{◌≡◌, ℕ, ◌+◌, ◌-◌, ◌≤◌, ◌<◌, min, rules, Bool, true, false, refl, ◌∙◌, List, length, append-nil, length-set, arith, add-one}
+use Rattle.std.proofs.Common.{◌≡◌, ℕ, ◌+◌, ◌-◌, ◌≤◌, ◌<◌, min, rules, Bool, true, false}
+use Rattle.std.proofs.Common.{refl, ◌∙◌, List, length, append-nil, length-set, arith, add-one}
 use Rattle.std.proofs.Math.ListN.{drop_of_length-le}
 use lib.Dec.{ltb}
 use lib.Seq.{paste, paste-suc, take_all}

@@ -1,0 +1,11 @@
+-- `run` keeps the whole answer in sight: the lines written so far, and then the run over what is left, are the run over everything.
+use Rattle.std.proofs.Common.{◌-◌, length}
+use Rattle.streams.proofs.LoopOfRun.{Ongoing}
+use Rattle.blocks.specs.Blockline.{blockline}
+use Rattle.blocks.proofs.run.Given as goal
+
+abbrev pub invariant-loop-ran : goal.invariant-loop-ran
+invariant-loop-ran l = Ongoing blockline l.input l.closed l.fn.output tt l.output l.ran.taken l.ran.written tt
+
+abbrev pub decreases-loop-ran : goal.decreases-loop-ran
+decreases-loop-ran l = length l.input - l.ran.taken
