@@ -1,5 +1,6 @@
 // The onlooker of demand 3 as code: he takes each call with its answer and says what happened and, at a start, by what.
 #![tactic(auto)]
+
 mod notes;
 pub mod past;
 pub mod plug;
@@ -78,6 +79,7 @@ impl Onlooker {
     }
 
     // The note of a call, and all that follows from it.
+    #[tactic(auto, unfolding(crate::specs::Hears::follows))]
     fn hear(self, now: Memory, asked: Asked, answer: Answer) -> Onlooker
         ensures { result ≡ heard_with self now asked answer }
     {

@@ -126,6 +126,7 @@ fn permits(past: Past) -> bool
 }
 
 // With one note more.
+#[tactic(auto, unfolding(crate::specs::Past::next))]
 pub(crate) fn next(past: Past, seen: Seen) -> Past
     ensures { result ≡ next past (note_of seen) }
 {
@@ -149,6 +150,7 @@ pub(crate) fn next(past: Past, seen: Seen) -> Past
 }
 
 // The demand's three rules after one note more.
+#[tactic(auto, unfolding(crate::specs::Past::rules))]
 pub(crate) fn judged(before: Past, seen: Seen, after: Past) -> Rules
     ensures { result ≡ rules before (note_of seen) after }
 {

@@ -43,6 +43,7 @@ impl Plug {
     }
 
     // With a call more: whether it was an accepted load, the pattern that it brought, if it was a cycle, and its answer.
+    #[tactic(auto, unfolding(crate::specs::Plug::plug_after))]
     pub fn hear(self, loaded: bool, pattern: u8, answer: Answer) -> Plug
         ensures { result ≡ plug_after self loaded pattern answer }
     {

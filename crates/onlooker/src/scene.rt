@@ -27,6 +27,7 @@ pub(crate) const DARK: Scene = Scene {
     low: 0,
 };
 
+#[tactic(auto, unfolding(crate::specs::Scene::scene))]
 pub(crate) fn with_call(
     before: Scene,
     from: u8,

@@ -1,5 +1,6 @@
 // The report line of an answer, written into bytes that the caller lends.
 #![tactic(auto)]
+
 mod put;
 mod write;
 
