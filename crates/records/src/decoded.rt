@@ -28,6 +28,7 @@ pub(crate) fn settings_of(bytes: &[u8], count: u8) -> [u16; ALL_SETTINGS]
     settings
 }
 
+#[tactic(auto, unfolding(crate::specs::Decoded::cycle_of))]
 pub(crate) fn cycle_of(bytes: &[u8]) -> Cycle
     requires { cycle_size ≤ length bytes.now }
     ensures { result ≡ cycle_of bytes.now }
@@ -39,6 +40,7 @@ pub(crate) fn cycle_of(bytes: &[u8]) -> Cycle
     }
 }
 
+#[tactic(auto, unfolding(crate::specs::Decoded::tick_of))]
 pub(crate) fn tick_of(bytes: &[u8]) -> Tick
     requires { tick_size ≤ length bytes.now }
     ensures { result ≡ tick_of bytes.now }

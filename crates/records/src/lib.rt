@@ -1,5 +1,6 @@
 // The records of the program: what the bytes of its input ask for, and the run over a buffer of them.
 #![tactic(auto)]
+
 mod answers;
 mod decoded;
 
@@ -70,6 +71,7 @@ fn load_of(count: u8, left: usize) -> Found
     }
 }
 
+#[tactic(auto, unfolding(crate::specs::Front::front))]
 pub fn read(input: &[u8], at: usize) -> Found
     ensures { result ≡ found (front (drop at input.now)) }
 {
