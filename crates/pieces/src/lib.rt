@@ -1,11 +1,14 @@
 // A stream that is read in pieces: what every program that answers records does with its buffers. The unanswered bytes go to the front,
 // the next piece is read behind them, and a call that fails is told on standard error.
 #![tactic(auto)]
+
 ghost use Rattle.std.specs.Prelude.{true, ◌≡◌, ◌++◌, min, length, drop};
 ghost use Rattle.pieces.specs.Between.{between};
 ghost use Rattle.pieces.specs.Reads.{Reads};
 
-use libc::{EPIPE, STDIN_FILENO, STDOUT_FILENO};
+use std::fmt::InlineText;
+use std::io::{Error, ErrorKind, Input, Read};
+use std::str::from_utf8;
 
 fn least(a: usize, b: usize) -> usize
     ensures { result ≡ min a b }
@@ -31,10 +34,26 @@ pub fn move_to_front(bytes: &mut [u8], from: usize, to: usize) -> usize
     count
 }
 
+// The system's words for an error, without the number that is told behind them.
+fn words(told: &str) -> &str {
+    match told.split_once(" (os error ") {
+        Some((words, _)) => words,
+        None => told,
+    }
+}
+
+// Tells on standard error, in a line, what failed, as the caller names it, and why. Where that cannot be told nothing is left to do.
+pub fn fail(rt: &impl Eprint, what: &[u8], error: Error) {
+    let told = InlineText::<128>::of(error);
+    let why = words(told.as_str());
+    let name = from_utf8(what).unwrap_or("");
+    let _ = eprintln!(rt; "{name}: {why}");
+}
+
 // A reader that has gone, as `head` does, is no failure to tell of.
-fn tell(what: &[u8]) {
-    if os::errno() != EPIPE {
-        os::fail(what);
+fn tell(rt: &impl Eprint, what: &[u8], error: Error) {
+    if error.kind() != ErrorKind::BrokenPipe {
+        fail(rt, what, error);
     }
 }
 
@@ -46,35 +65,38 @@ pub struct Piece {
 }
 
 // Reads from standard input once, behind the bytes that are held. A failure is told under the name `what`.
-pub fn read_behind(bytes: &mut [u8], held: usize, what: &[u8]) -> Piece
+pub fn read_behind(rt: &(impl Input + Eprint), bytes: &mut [u8], held: usize, what: &[u8]) -> Piece
     ensures { Reads held bytes.old bytes.new result }
 {
     let at = least(held, bytes.len());
-    let got = libc::read(STDIN_FILENO, &mut bytes[at..]);
-    if got < 0 {
-        tell(what);
-        return Piece {
-            brought: 0,
-            failed: true,
-        };
-    }
-    Piece {
-        brought: io::count(got, &bytes[at..]),
-        failed: false,
+    match rt.reader().read(&mut bytes[at..]) {
+        Ok(brought) => Piece {
+            brought,
+            failed: false,
+        },
+        Err(error) => {
+            tell(rt, what, error);
+            Piece {
+                brought: 0,
+                failed: true,
+            }
+        }
     }
 }
 
 // Writes all of the bytes to standard output, and tells whether they were written; none always are. A failure is told under the name
 // `what`.
-pub fn write_out(bytes: &[u8], what: &[u8]) -> bool
+pub fn write_out(rt: &(impl Print + Eprint), bytes: &[u8], what: &[u8]) -> bool
     ensures { length bytes.now ≡ 0 → result ≡ true }
 {
     if bytes.len() == 0 {
         return true;
     }
-    let written = io::write_all(STDOUT_FILENO, bytes);
-    if !written {
-        tell(what);
+    match rt.write_all(bytes) {
+        Ok(()) => true,
+        Err(error) => {
+            tell(rt, what, error);
+            false
+        }
     }
-    written
 }

@@ -2,16 +2,22 @@
 // argument names. What stands in its buffers is judged by `judge::run`; here is only the moving of bytes. At the end it says what the
 // judge has to say.
 #![tactic(auto)]
+
 ghost use Rattle.std.specs.Prelude.{◌≡◌, ◌≤◌, length};
 ghost use Rattle.program_judge.specs.Rest.{Rest, Kept};
 
 use judge::sentences::{VERDICT_SIZE, verdict};
 use judge::{Judge, LINES, NOTHING, RECORDS, TURN, run};
-use pieces::{move_to_front, read_behind, write_out};
+use pieces::{fail, move_to_front, read_behind, write_out};
 use records::{INPUT_SIZE, OUTPUT_SIZE};
+use std::env::{Env, FillError};
+use std::fs;
+use std::io::{Error, ErrorKind, Input, Read};
+use std::rt::Files;
+use std::str::from_utf8;
 
-// Where the launcher puts the board's lines.
-const LINES_DESCRIPTOR: i32 = 3;
+// Where the launcher puts the board's lines: descriptor 3.
+const LINES_DESCRIPTOR: &str = "/dev/fd/3";
 
 // A read has failed.
 const FAILED: u8 = 4;
@@ -58,13 +64,13 @@ fn judged(held: Held, input: &mut [u8], lines: &mut [u8]) -> Held
 }
 
 // Reads records once behind those that are held. A read of no bytes is their end.
-fn read_records(held: Held, input: &mut [u8]) -> Held
+fn read_records(rt: &(impl Input + Eprint), held: Held, input: &mut [u8]) -> Held
     requires { held.count ≤ length input.old }
     ensures within { result.count ≤ length input.old }
     ensures kept { Kept held result × (result.lines ≡ held.lines) × (result.finished ≡ held.finished) }
 {
     let count = held.count;
-    let piece = read_behind(input, count, b"why: standard input");
+    let piece = read_behind(rt, input, count, b"why: standard input");
     let brought = piece.brought;
     let mut next = held;
     next.count = count + brought;
@@ -74,42 +80,54 @@ fn read_records(held: Held, input: &mut [u8]) -> Held
 }
 
 // The same of the lines.
-fn read_lines(held: Held, from: i32, lines: &mut [u8]) -> Held
+fn read_lines(rt: &impl Eprint, held: Held, from: &mut impl Read, lines: &mut [u8]) -> Held
     requires { held.lines ≤ length lines.old }
     ensures within { result.lines ≤ length lines.old }
     ensures kept { Kept held result × (result.count ≡ held.count) × (result.closed ≡ held.closed) }
 {
     let printed = held.lines;
     let mut next = held;
-    let got = libc::read(from, &mut lines[printed..]);
-    if got < 0 {
-        os::fail(b"why: the board's lines");
-        next.wants = FAILED;
-        return next;
+    match from.read(&mut lines[printed..]) {
+        Ok(brought) => {
+            next.lines = printed + brought;
+            next.finished = held.finished | (brought == 0);
+            next.wants = TURN;
+        }
+        Err(error) => {
+            fail(rt, b"why: the board's lines", error);
+            next.wants = FAILED;
+        }
     }
-    let brought = io::count(got, &lines[printed..]);
-    next.lines = printed + brought;
-    next.finished = held.finished | (brought == 0);
-    next.wants = TURN;
     next
 }
 
-fn turn(held: Held, from: i32, input: &mut [u8], lines: &mut [u8]) -> Held
+fn turn(
+    rt: &(impl Input + Eprint),
+    held: Held,
+    from: &mut impl Read,
+    input: &mut [u8],
+    lines: &mut [u8],
+) -> Held
     requires { (held.count ≤ length input.old) × (held.lines ≤ length lines.old) }
     ensures { (result.count ≤ length input.old) × (result.lines ≤ length lines.old) }
 {
     let held = judged(held, input, lines);
     if held.wants == RECORDS {
-        return read_records(held, input);
+        return read_records(rt, held, input);
     }
     if held.wants == LINES {
-        return read_lines(held, from, lines);
+        return read_lines(rt, held, from, lines);
     }
     held
 }
 
 // A proved loop has to end, and nothing says that the input does: the turns are counted down from a number that no run uses up.
-fn serve(from: i32, input: &mut [u8], lines: &mut [u8]) -> Held {
+fn serve(
+    rt: &(impl Input + Eprint),
+    from: &mut impl Read,
+    input: &mut [u8],
+    lines: &mut [u8],
+) -> Held {
     let mut turns = u64::MAX;
     let mut held = Held {
         judge: Judge::new(),
@@ -120,45 +138,62 @@ fn serve(from: i32, input: &mut [u8], lines: &mut [u8]) -> Held {
         wants: TURN,
     };
     while turns > 0 && held.wants == TURN {
-        held = turn(held, from, input, lines);
+        held = turn(rt, held, from, input, lines);
         turns -= 1;
     }
     held
 }
 
-// The descriptor of the board's lines, below 0 where they cannot be opened.
-fn lines_from() -> i32 {
-    if os::arg_count() < 2 {
-        return LINES_DESCRIPTOR;
+// The file of a name, as text is wanted by whoever opens it.
+fn opened<R: Files + Eprint>(rt: &R, path: &str) -> Option<R::File> {
+    match fs::open(rt, path) {
+        Ok(file) => Some(file),
+        Err(error) => {
+            fail(rt, b"why: the board's lines", error);
+            None
+        }
     }
-    let mut path = io::buffer();
-    let length = os::arg(1, &mut path);
-    if os::errno() != 0 {
-        os::fail(b"why: the name of the board's lines");
-        return -1;
-    }
-    let from = os::open_read(&path[..length]);
-    if from < 0 {
-        os::fail(b"why: the board's lines");
-    }
-    from
 }
 
-fn tell(judge: Judge) {
+// A name that is longer than a path may be, or no text.
+fn fail_name(rt: &impl Eprint, words: &str) {
+    let error = Error::new(ErrorKind::InvalidFilename, words);
+    fail(rt, b"why: the name of the board's lines", error);
+}
+
+// The board's lines, none where they cannot be opened.
+fn lines_from<R: Env + Files + Eprint>(rt: &R) -> Option<R::File> {
+    let mut path = [0u8; 4096];
+    match rt.arg(1, &mut path) {
+        Ok(length) => match from_utf8(&path[..length]) {
+            Ok(path) => opened(rt, path),
+            Err(_) => {
+                fail_name(rt, "Invalid UTF-8");
+                None
+            }
+        },
+        Err(FillError::NotPresent) => opened(rt, LINES_DESCRIPTOR),
+        Err(FillError::TooLong) => {
+            fail_name(rt, "File name too long");
+            None
+        }
+    }
+}
+
+fn tell(rt: &(impl Print + Eprint), judge: Judge) {
     let mut output = [0u8; VERDICT_SIZE];
     let said = verdict(judge, &mut output);
-    write_out(&output[..said], b"why: standard output");
+    write_out(rt, &output[..said], b"why: standard output");
 }
 
-fn main() {
-    let from = lines_from();
-    if from < 0 {
+fn main(rt: HostRuntime) {
+    let Some(mut from) = lines_from(&rt) else {
         return;
-    }
+    };
     let mut input = [0u8; INPUT_SIZE];
     let mut lines = [0u8; OUTPUT_SIZE];
-    let held = serve(from, &mut input, &mut lines);
+    let held = serve(&rt, &mut from, &mut input, &mut lines);
     if held.wants == NOTHING {
-        tell(held.judge);
+        tell(&rt, held.judge);
     }
 }

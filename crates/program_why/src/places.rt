@@ -3,6 +3,7 @@ ghost use Rattle.std.specs.Prelude.{◌≤◌};
 
 use pieces::{move_to_front, read_behind, write_out};
 use records::OUTPUT_SIZE;
+use std::io::Input;
 
 // How many bytes of the input are filled, and how many of these are taken; where the next sentence goes; whether no more input will
 // come, and whether the run has ended.
@@ -44,14 +45,14 @@ pub(crate) fn behind(place: usize, size: usize) -> usize {
 }
 
 // Writes the sentences that stand in the output.
-fn flush(output: &[u8], next: usize) -> bool {
+fn flush(rt: &(impl Print + Eprint), output: &[u8], next: usize) -> bool {
     let end = least(next, output.len());
-    write_out(&output[..end], b"why: standard output")
+    write_out(rt, &output[..end], b"why: standard output")
 }
 
 // The sentences so far are written. Where they cannot be the run ends.
-fn flushed(places: Places, output: &[u8]) -> Places {
-    let written = flush(output, places.next);
+fn flushed(rt: &(impl Print + Eprint), places: Places, output: &[u8]) -> Places {
+    let written = flush(rt, output, places.next);
     Places {
         next: 0,
         ended: places.ended | !written,
@@ -60,21 +61,21 @@ fn flushed(places: Places, output: &[u8]) -> Places {
 }
 
 // There is room for the sentences of one record more.
-pub(crate) fn with_room(places: Places, output: &[u8]) -> Places {
+pub(crate) fn with_room(rt: &(impl Print + Eprint), places: Places, output: &[u8]) -> Places {
     if places.next <= OUTPUT_SIZE - SPARE {
         return places;
     }
-    flushed(places, output)
+    flushed(rt, places, output)
 }
 
 // What is left of the input stands in front, and what one read brought behind it. A read that fails ends the run; one of no bytes is the
 // end of the input.
-fn read_on(places: Places, input: &mut [u8]) -> Places {
+fn read_on(rt: &(impl Input + Eprint), places: Places, input: &mut [u8]) -> Places {
     if places.ended {
         return places;
     }
     let held = move_to_front(input, places.taken, places.filled);
-    let piece = read_behind(input, held, b"why: standard input");
+    let piece = read_behind(rt, input, held, b"why: standard input");
     Places {
         filled: behind(held, piece.brought),
         taken: 0,
@@ -85,6 +86,11 @@ fn read_on(places: Places, input: &mut [u8]) -> Places {
 }
 
 // What was said is written before more is read.
-pub(crate) fn refilled(places: Places, input: &mut [u8], output: &[u8]) -> Places {
-    read_on(flushed(places, output), input)
+pub(crate) fn refilled(
+    rt: &(impl Input + Print + Eprint),
+    places: Places,
+    input: &mut [u8],
+    output: &[u8],
+) -> Places {
+    read_on(rt, flushed(rt, places, output), input)
 }

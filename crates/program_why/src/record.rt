@@ -8,6 +8,7 @@ use crate::shown::{gates, live, trip};
 use crate::words::{NO_RECORD, NOTHING};
 use onlooker::plug::Plug;
 use records::{Found, read};
+use std::io::Input;
 
 // What stands behind the bytes that were taken.
 pub(crate) fn found_at(input: &[u8], places: Places) -> Found {
@@ -52,7 +53,13 @@ fn last_counts(ended: bool, plug: Plug) -> Sentence {
 }
 
 // No record is taken. What is none ends the run, and so does the end of the input.
-fn take_none(places: Places, e: Event, input: &mut [u8], output: &mut [u8]) -> Places {
+fn take_none(
+    rt: &(impl Input + Print + Eprint),
+    places: Places,
+    e: Event,
+    input: &mut [u8],
+    output: &mut [u8],
+) -> Places {
     let ended = places.closed | (e.kind == NO_RECORD);
     let plug = e.plug;
     let counted = put_sentence(output, places.next, e.nth, last_counts(ended, plug));
@@ -62,24 +69,30 @@ fn take_none(places: Places, e: Event, input: &mut [u8], output: &mut [u8]) -> P
         ended,
         ..places
     };
-    refilled(places, input, output)
+    refilled(rt, places, input, output)
 }
 
 // A record is taken, and what is to be said of it is put.
-fn take(places: Places, e: Event, output: &mut [u8]) -> Places {
+fn take(rt: &(impl Print + Eprint), places: Places, e: Event, output: &mut [u8]) -> Places {
     let next = put_sentences(output, places.next, e);
     let places = Places {
         taken: behind(places.taken, e.size),
         next,
         ..places
     };
-    with_room(places, output)
+    with_room(rt, places, output)
 }
 
 // A record or, where there is none, a read.
-pub(crate) fn turn(e: Event, places: Places, input: &mut [u8], output: &mut [u8]) -> Places {
+pub(crate) fn turn(
+    rt: &(impl Input + Print + Eprint),
+    e: Event,
+    places: Places,
+    input: &mut [u8],
+    output: &mut [u8],
+) -> Places {
     if (e.kind == NOTHING) | (e.kind == NO_RECORD) {
-        return take_none(places, e, input, output);
+        return take_none(rt, places, e, input, output);
     }
-    take(places, e, output)
+    take(rt, places, e, output)
 }

@@ -1,15 +1,19 @@
 // Runs a stored stream of records in one call and prints its lines. The stream is generated, and the lines that it is held to are the
 // independent model's: a fixed part of what tools/compare compares.
 #![tactic(auto)]
+
+ghost use Rattle.std.specs.Prelude.{◌≤◌, length, IfOk};
+
 use drive::Drive;
-use libc::{STDIN_FILENO, STDOUT_FILENO};
 use records::run;
 use report::LINE_LENGTH;
+use std::io;
+use std::io::{Input, Read};
 
-fn print_lines(input: &[u8], output: &mut [u8]) {
+fn print_lines(rt: &impl Print, input: &[u8], output: &mut [u8]) -> io::Result<()> {
     let ran = run(Drive::power_up(), input, true, output);
     let written = ran.written;
-    io::write_all(STDOUT_FILENO, &output[..written]);
+    rt.write_all(&output[..written])
 }
 
 // The records of the stored stream, and the bytes that hold them.
@@ -19,9 +23,19 @@ const INPUT_SIZE: usize = 32768;
 
 const OUTPUT_SIZE: usize = LINE_LENGTH * RECORDS;
 
-fn main() {
+// Reads until the bytes are full or the input ends, and tells how many came.
+fn read_full(rt: &impl Input, bytes: &mut [u8]) -> io::Result<usize>
+    ensures { IfOk result (λ n. n ≤ length bytes.new) }
+{
+    let size = bytes.len();
+    let mut room = &mut bytes[..];
+    io::copy(&mut rt.reader().take(size as u64), &mut room)?;
+    Ok(size.saturating_sub(room.len()))
+}
+
+fn main(rt: HostRuntime) -> io::Result<()> {
     let mut input = [0u8; INPUT_SIZE];
     let mut output = [0u8; OUTPUT_SIZE];
-    let count = io::read_full(STDIN_FILENO, &mut input);
-    print_lines(&input[..count], &mut output);
+    let count = read_full(&rt, &mut input)?;
+    print_lines(&rt, &input[..count], &mut output)
 }

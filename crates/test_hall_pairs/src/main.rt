@@ -2,12 +2,13 @@
 // against none and 0 to 3), and prints a line for each pair: sensors, pattern, kept pattern (. for none), fate, position after and angle
 // after. The Hall part starts at position 0 and at angle 1, which no pattern gives, and the offset is 0.
 #![tactic(auto)]
+
 ghost use Rattle.std.specs.Prelude.{◌<◌};
 
 use hall::Hall;
 use hall::fate::{Fate, Kept};
 use hall::layout::Sensors;
-use libc::STDOUT_FILENO;
+use std::io;
 
 // The kept patterns in the order of the lines: none, and then the layout's, which begin at 1 or, with two sensors, at 0.
 fn kept_of(sensors: Sensors, place: u8) -> Kept {
@@ -26,48 +27,45 @@ fn pattern_of(sensors: Sensors, place: u8) -> u8
     }
 }
 
-fn print_sensors(sensors: Sensors) {
+fn print_sensors(rt: &impl Print, sensors: Sensors) -> io::Result<()> {
     match sensors {
-        Sensors::Three => io::write_all(STDOUT_FILENO, b"3 "),
-        Sensors::Two => io::write_all(STDOUT_FILENO, b"2 "),
-    };
+        Sensors::Three => rt.write_all(b"3 "),
+        Sensors::Two => rt.write_all(b"2 "),
+    }
 }
 
-fn print_pattern(number: u8) {
-    io::write_all(STDOUT_FILENO, &[b'0' + number % 8, b' ']);
+fn print_pattern(rt: &impl Print, number: u8) -> io::Result<()> {
+    rt.write_all(&[b'0' + number % 8, b' '])
 }
 
-fn print_kept(kept: Kept) {
+fn print_kept(rt: &impl Print, kept: Kept) -> io::Result<()> {
     match kept {
-        Kept::Nothing => {
-            io::write_all(STDOUT_FILENO, b". ");
-        }
-        Kept::Pattern(number) => print_pattern(number),
+        Kept::Nothing => rt.write_all(b". "),
+        Kept::Pattern(number) => print_pattern(rt, number),
     }
 }
 
-fn print_fate(fate: Fate) {
+fn print_fate(rt: &impl Print, fate: Fate) -> io::Result<()> {
     match fate {
-        Fate::Dead => io::write_all(STDOUT_FILENO, b"dead "),
-        Fate::First => io::write_all(STDOUT_FILENO, b"first "),
-        Fate::Same => io::write_all(STDOUT_FILENO, b"same "),
-        Fate::Forward => io::write_all(STDOUT_FILENO, b"forward "),
-        Fate::Back => io::write_all(STDOUT_FILENO, b"back "),
-        Fate::Stray => io::write_all(STDOUT_FILENO, b"stray "),
-    };
-}
-
-fn print_angle(angle: i16) {
-    if angle < 0 {
-        io::write_all(STDOUT_FILENO, b" -");
-    } else {
-        io::write_all(STDOUT_FILENO, b" +");
+        Fate::Dead => rt.write_all(b"dead "),
+        Fate::First => rt.write_all(b"first "),
+        Fate::Same => rt.write_all(b"same "),
+        Fate::Forward => rt.write_all(b"forward "),
+        Fate::Back => rt.write_all(b"back "),
+        Fate::Stray => rt.write_all(b"stray "),
     }
-    io::print_decimal(STDOUT_FILENO, numbers::absolute(angle) as u64);
-    io::write_all(STDOUT_FILENO, b"\n");
 }
 
-fn print_pair(sensors: Sensors, pattern: u8, kept: Kept) {
+fn print_angle(rt: &impl Print, angle: i16) -> io::Result<()> {
+    if angle < 0 {
+        rt.write_all(b" -")?;
+    } else {
+        rt.write_all(b" +")?;
+    }
+    println!(rt; "{}", numbers::absolute(angle))
+}
+
+fn print_pair(rt: &impl Print, sensors: Sensors, pattern: u8, kept: Kept) -> io::Result<()> {
     let hall = Hall {
         kept,
         position: 0,
@@ -77,28 +75,29 @@ fn print_pair(sensors: Sensors, pattern: u8, kept: Kept) {
         still_count: 0,
     };
     let sampled = hall.sampled(sensors, pattern, 0);
-    print_sensors(sensors);
-    print_pattern(pattern);
-    print_kept(kept);
+    print_sensors(rt, sensors)?;
+    print_pattern(rt, pattern)?;
+    print_kept(rt, kept)?;
     let fate = sampled.fate;
-    print_fate(fate);
+    print_fate(rt, fate)?;
     let next = sampled.hall;
-    io::print_decimal(STDOUT_FILENO, next.position as u64);
-    print_angle(next.angle);
+    print!(rt; "{}", next.position)?;
+    print_angle(rt, next.angle)
 }
 
 // So many pairs, with so many kept patterns for each pattern, none of them included.
-fn print_pairs(sensors: Sensors, pairs: u8, kept: u8)
+fn print_pairs(rt: &impl Print, sensors: Sensors, pairs: u8, kept: u8) -> io::Result<()>
     requires { 0 < kept }
 {
     let mut pair: u8 = 0;
     while pair < pairs {
-        print_pair(sensors, pair / kept, kept_of(sensors, pair % kept));
+        print_pair(rt, sensors, pair / kept, kept_of(sensors, pair % kept))?;
         pair += 1;
     }
+    Ok(())
 }
 
-fn main() {
-    print_pairs(Sensors::Three, 56, 7);
-    print_pairs(Sensors::Two, 20, 5);
+fn main(rt: HostRuntime) -> io::Result<()> {
+    print_pairs(&rt, Sensors::Three, 56, 7)?;
+    print_pairs(&rt, Sensors::Two, 20, 5)
 }

@@ -1,13 +1,15 @@
 // Runs the stored records once whole and once in two parts for every place where they can be split, with the drive handed on, and
 // compares the lines. It prints the lines of the whole run, and how many splits there were and how many gave other lines.
 #![tactic(auto)]
-ghost use Rattle.std.specs.Prelude.{◌≤◌, length};
+
+ghost use Rattle.std.specs.Prelude.{◌≤◌, length, IfOk};
 
 use check::same;
 use drive::Drive;
-use libc::{STDIN_FILENO, STDOUT_FILENO};
 use records::{CYCLE_SIZE, run};
 use report::LINE_LENGTH;
+use std::io;
+use std::io::{Input, Read};
 
 // What of the first part is not taken is read again with the second, as the program reads on behind what it holds. A line with
 // number 6 ends the run, so nothing behind it is read.
@@ -33,7 +35,12 @@ fn differs(input: &[u8], split: usize, lines: &[u8], output: &mut [u8]) -> bool
     !same(lines, &output[..written])
 }
 
-fn print_differing(input: &[u8], lines: &[u8], output: &mut [u8]) {
+fn print_differing(
+    rt: &impl Print,
+    input: &[u8],
+    lines: &[u8],
+    output: &mut [u8],
+) -> io::Result<()> {
     let mut differing: u64 = 0;
     let mut split: usize = 0;
     while split <= input.len() {
@@ -42,17 +49,14 @@ fn print_differing(input: &[u8], lines: &[u8], output: &mut [u8]) {
         }
         split += 1;
     }
-    io::print_decimal(STDOUT_FILENO, split as u64);
-    io::write_all(STDOUT_FILENO, b" splits, ");
-    io::print_decimal(STDOUT_FILENO, differing);
-    io::write_all(STDOUT_FILENO, b" differ\n");
+    println!(rt; "{split} splits, {differing} differ")
 }
 
-fn compare(input: &[u8], whole: &mut [u8], parts: &mut [u8]) {
+fn compare(rt: &impl Print, input: &[u8], whole: &mut [u8], parts: &mut [u8]) -> io::Result<()> {
     let ran = run(Drive::power_up(), input, true, whole);
     let written = ran.written;
-    io::write_all(STDOUT_FILENO, &whole[..written]);
-    print_differing(input, &whole[..written], parts);
+    rt.write_all(&whole[..written])?;
+    print_differing(rt, input, &whole[..written], parts)
 }
 
 // How many bytes the second comparison leaves out at the end, so that it ends between two records, and the third, so that it ends in
@@ -66,14 +70,25 @@ const INPUT_SIZE: usize = 1024;
 // The lines of everything that the input can ask for: the shortest record is a cycle.
 const OUTPUT_SIZE: usize = LINE_LENGTH * (INPUT_SIZE / CYCLE_SIZE + 1);
 
-fn main() {
+// Reads until the bytes are full or the input ends, and tells how many came.
+fn read_full(rt: &impl Input, bytes: &mut [u8]) -> io::Result<usize>
+    ensures { IfOk result (λ n. n ≤ length bytes.new) }
+{
+    let size = bytes.len();
+    let mut room = &mut bytes[..];
+    io::copy(&mut rt.reader().take(size as u64), &mut room)?;
+    Ok(size.saturating_sub(room.len()))
+}
+
+fn main(rt: HostRuntime) -> io::Result<()> {
     let mut input = [0u8; INPUT_SIZE];
     let mut whole = [0u8; OUTPUT_SIZE];
     let mut parts = [0u8; OUTPUT_SIZE];
-    let count = io::read_full(STDIN_FILENO, &mut input);
-    compare(&input[..count], &mut whole, &mut parts);
+    let count = read_full(&rt, &mut input)?;
+    compare(&rt, &input[..count], &mut whole, &mut parts)?;
     if CUT < count {
-        compare(&input[..count - UNKNOWN], &mut whole, &mut parts);
-        compare(&input[..count - CUT], &mut whole, &mut parts);
+        compare(&rt, &input[..count - UNKNOWN], &mut whole, &mut parts)?;
+        compare(&rt, &input[..count - CUT], &mut whole, &mut parts)?;
     }
+    Ok(())
 }
