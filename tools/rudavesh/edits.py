@@ -1,11 +1,11 @@
 """The must-fail edits: crates/NAME/must-fail/LABEL.edit has wrong answers, each with its name, what must refuse it, and, in turn, a text of
 a file of its crate and what stands in its place.
 
-`rt must-fail` tries each edit, which takes minutes, and `.ci/refused` then asks its log what refused each wrong answer. That an edit still
-finds its texts, and that its wrong answers can be told apart in one log, is told here at once."""
+`rt ci` and `rt must-fail` try each edit, and `.ci/refused` asks the prover what refused each wrong answer; either takes minutes. That an
+edit still finds its texts, and that its wrong answers can be told apart in one log, is told here at once."""
 
 from pathlib import Path
-from typing import Dict, Iterator, List, NamedTuple
+from typing import Dict, Iterator, List, NamedTuple, Tuple
 
 from . import places
 
@@ -24,33 +24,54 @@ def edits(root: Path = places.ROOT) -> List[Path]:
     return sorted(root.glob("crates/*/must-fail/*.edit"))
 
 
-def refusers(edit: Path) -> Dict[str, List[str]]:
-    """The wrong answers of an edit, in their order, and what must refuse each."""
-    found: Dict[str, List[str]] = {}
-    name = ""
+class Answer(NamedTuple):
+    """A wrong answer: its name, what must refuse it, and in their order the file, the text there and what stands in its place."""
+
+    name: str
+    refusers: List[str]
+    pairs: List[Tuple[str, str, str]]
+
+
+def answers(edit: Path) -> List[Answer]:
+    """The wrong answers of an edit, in their order. As for rt, a file holds for the pairs behind it, too."""
+    found: List[Answer] = []
+    file = old = ""
     for line in edit.read_text(encoding="utf-8").split("\n"):
         word, _, rest = line.partition(": ")
         if word == "wrong":
-            name = rest
-            found[name] = []
-        elif word == "refused by":
-            found.setdefault(name, []).extend(rest.split(", "))
+            found.append(Answer(rest, [], []))
+        elif word == "refused by" and found:
+            found[-1].refusers.extend(rest.split(", "))
+        elif word == "file":
+            file = rest
+        elif word == "old":
+            old = rest
+        elif line.startswith("new:") and found:
+            found[-1].pairs.append((file, old, line[len("new:") :].removeprefix(" ")))
     return found
 
 
+def refusers(edit: Path) -> Dict[str, List[str]]:
+    """The wrong answers of an edit, in their order, and what must refuse each."""
+    return {one.name: one.refusers for one in answers(edit)}
+
+
 def gone_in(edit: Path) -> Iterator[Fault]:
-    """The texts that an edit replaces and that are not in its file, each looked for after the ones before it are replaced."""
-    crate, name, text, old = edit.parent.parent, "", "", ""
+    """The texts that an edit replaces and that do not stand once in their file, each looked for after the ones before it are replaced."""
+    crate, name, old = edit.parent.parent, "", ""
+    texts: Dict[str, str] = {}
     for line in edit.read_text(encoding="utf-8").split("\n"):
         word, _, rest = line.partition(": ")
-        if word == "file" and rest != name:
-            name, text = rest, (crate / rest).read_text(encoding="utf-8")
+        if word == "file":
+            name = rest
+            if name not in texts:
+                texts[name] = (crate / name).read_text(encoding="utf-8")
         elif word == "old":
             old = rest
-            if old not in text:
-                yield Fault(edit, f"{name} has no `{old}` any more.")
+            if texts[name].count(old) != 1:
+                yield Fault(edit, f"{name} has {'no' if old not in texts[name] else 'more than one'} `{old}` any more.")
         elif word == "new":
-            text = text.replace(old, rest)
+            texts[name] = texts[name].replace(old, rest)
 
 
 def unclear_in(edit: Path) -> Iterator[Fault]:

@@ -1,5 +1,6 @@
 """Files of Rattle, and how many of their lines say something."""
 
+import re
 from pathlib import Path
 from typing import List
 
@@ -18,11 +19,16 @@ def lines_of(folder: Path) -> int:
     return sum(1 for suffix, line in lines if line and not line.startswith(COMMENT[suffix]))
 
 
+def has_code(crate: Path) -> bool:
+    """Whether a crate has a function; one of definitions and theorems alone has attributes."""
+    return any(re.search(r"^ *(?:pub(?:\(crate\))? )?fn ", file.read_text(), re.M) for file in (crate / "src").glob("**/*.rt"))
+
+
 def called_crates(root: Path = places.ROOT) -> List[str]:
     """The crates with code that others call, in the order of crates.txt: neither programs nor crates of theorems alone."""
     crates = places.crates_of(root)
     known = {name for knows in crates.values() for name in knows}
-    return [name for name in crates if name in known and lines_of(places.crate_folder(name, root) / "src")]
+    return [name for name in crates if name in known and has_code(places.crate_folder(name, root))]
 
 
 def is_shell(file: Path) -> bool:

@@ -129,6 +129,12 @@ def changes(crate: str) -> list[Change]:
     return found
 
 
+def check(crate: str, place: Path) -> "subprocess.CompletedProcess[str]":
+    """A check of a crate in the copy at `place`."""
+    return subprocess.run(["rt", "check", "--jobs", "1"], cwd=crate_folder(crate, place), stdin=subprocess.DEVNULL,
+                          stdout=subprocess.PIPE, stderr=subprocess.STDOUT, text=True, errors="replace", check=False)  # fmt: skip
+
+
 def asked(change: Change, place: Path) -> str:
     """What the prover says of a change in the copy at `place`: refused, survived, or no program (it has not even a type)."""
     file = crate_folder(change.crate, place) / change.file
@@ -137,11 +143,10 @@ def asked(change: Change, place: Path) -> str:
     lines[change.line - 1] = change.new
     file.write_text("\n".join(lines))
     try:
-        for verb in ("dev", "check"):  # the quick loop may refuse; only the full check may accept
-            done = subprocess.run(["rt", verb, change.crate], cwd=place, capture_output=True, text=True)
-            if done.returncode != 0:
-                return "refused" if re.search(r"^fn .*: (not )?proved", done.stdout + done.stderr, re.M) else "no program"
-        return "survived"
+        done = check(change.crate, place)
+        if done.returncode == 0:
+            return "survived"
+        return "refused" if re.search(r"^logic=not-proved", done.stdout, re.M) else "no program"
     finally:
         file.write_text(text)
 
@@ -170,8 +175,9 @@ def main() -> int:
     with tempfile.TemporaryDirectory() as folder:
         places: Queue[Path] = Queue()
         first = Path(folder) / "1"
-        shutil.copytree(ROOT, first, ignore=shutil.ignore_patterns(".git", "model"))
-        subprocess.run(["rt", "check", *crates], cwd=first, stdout=subprocess.DEVNULL, check=True)
+        shutil.copytree(ROOT, first, ignore=shutil.ignore_patterns(".git", "model", "out", "target"))
+        for crate in crates:
+            check(crate, first).check_returncode()
         places.put(first)
         for number in range(2, WORKERS + 1):
             places.put(Path(shutil.copytree(first, Path(folder) / str(number))))

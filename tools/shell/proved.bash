@@ -65,7 +65,7 @@ find_program() { # WORD
     look_at_sources
 }
 
-# Sets `kit`, its folder; the loader and on other machines than x86-64 the emulator are the kit's own.
+# Sets `kit`, its folder.
 find_kit() {
     local rt
     rt=$(command -v rt) || fail 2 "the Rattle kit is missing: its command rt is not on the PATH."
@@ -80,9 +80,11 @@ name_copy() {
 # Seconds without a word from rt after which a word is due: a large crate takes longer.
 PATIENCE=30
 
-# Passes on rt's word of each crate that it proved, and keeps all that it says in target/run/log.
+# Tells of each crate that rt proved, and keeps all that rt says in target/run/log. What rt says of a crate ends with `crate NAME: ..` and
+# its verdict. Of one that is as it was when it was last proved it says nothing: that is done with the first crate above it.
 show_progress() {
-    local line part='' name seconds done=0 began=$SECONDS
+    local line part='' name='' crate began=$SECONDS last=$SECONDS
+    local -A done=()
     while true; do
         IFS= read -r -t "$PATIENCE" line
         case $? in
@@ -90,32 +92,41 @@ show_progress() {
         1) break ;;
         *)
             part+=$line
-            say "still at it: $done of ${#crates[@]} crates after $((SECONDS - began)) s."
+            say "still at it: ${#done[@]} of ${#crates[@]} crates after $((SECONDS - began)) s."
             continue
             ;;
         esac
         printf '%s\n' "$line" >>"$root/target/run/log"
-        [[ $line =~ ^rt:\ ([a-z_0-9]+)\ proved\ \((.*)\)$ ]] || continue
-        name=${BASH_REMATCH[1]} seconds=${BASH_REMATCH[2]} done=$((done + 1))
-        [[ $seconds == unchanged* ]] || say "$done of ${#crates[@]} crates proved: $name ($seconds)"
+        [[ $line =~ ^crate\ ([a-z_0-9]+):\  ]] && name=${BASH_REMATCH[1]}
+        [[ -n $name && $line == logic=proved* ]] || continue
+        for crate in $(crates_below "$name"); do done[$crate]=yes; done
+        say "${#done[@]} of ${#crates[@]} crates proved: $name ($((SECONDS - last)) s)"
+        name='' last=$SECONDS
     done
 }
 
-# rt leaves crates behind that still work when it is interrupted, so it runs in a session of its own, and an interrupt ends all of that.
-check_by_rt() {
-    local builder status
+# What rt runs once it has proved and built a program: this line comes right before.
+RUNNING='^rt: running out/'
+
+# rt builds a program to run it: here it gets no input, and none of what this command has open. rt leaves crates behind that still work
+# when it is interrupted, so it runs in a session of its own, and an interrupt ends all of that. What counts is that the program was
+# proved and built, not what became of that run.
+run_by_rt() {
+    local builder
     : >"$root/target/run/log"
-    exec 6< <(cd "$root" && exec setsid rt check "$folder" </dev/null 2>&1)
+    exec 6< <(cd "$root/crates/$folder" && exec setsid rt run </dev/null 2>&1 3<&- 9>&-)
     builder=$!
     trap 'kill -TERM -- "-$builder" 2>/dev/null; wait "$builder" 2>/dev/null; fail 130 "interrupted; what is proved so far is kept."' \
         INT TERM HUP
     show_progress <&6
     wait "$builder"
-    status=$?
     exec 6<&-
     trap - INT TERM HUP
-    return "$status"
+    grep -q "$RUNNING" "$root/target/run/log"
 }
+
+# What rt says of what is well, and of how it went about its work.
+WELL='^(checked|library|statements|crate|axioms|linked|logic|only)[ =]|^(fn|struct|enum|impl|trait) .*: proved$|^rt: (chose|[a-z_0-9]+: begins with) '
 
 # Proves and builds, alone in this tree. The sources may change meanwhile: the copy is named by those that were there before and after.
 build() {
@@ -123,21 +134,20 @@ build() {
     say "proving and building it from its ${#crates[@]} crates, once for these sources; on two cores that takes some minutes."
     while [ "$before" != "$sources" ]; do
         before=$sources
-        if ! check_by_rt; then
-            grep -vE '^(fn|struct|enum) .*: proved$|^logic|^library|^rt: [a-z_0-9]+ proved \(' "$root/target/run/log" >&2
+        if ! run_by_rt; then
+            grep -vE "$WELL" "$root/target/run/log" >&2
             fail 1 "$folder is not proved, so it is not run; target/run/log has all that rt said."
         fi
         look_at_sources
     done
     name_copy
-    cp "$root/target/bin/$folder" "$root/target/run/new.$folder" && chmod 755 "$root/target/run/new.$folder" &&
+    cp "$root/crates/$folder/out/$folder" "$root/target/run/new.$folder" && chmod 755 "$root/target/run/new.$folder" &&
         rm -f "$root/target/run/$folder".* && mv "$root/target/run/new.$folder" "$copy" || fail 1 "target/run cannot be written."
     say "proved and built."
 }
 
-# Leaves in `program` the words that run the proved program of a word.
+# Leaves in `program` the file that is the proved program of a word.
 make_ready() { # WORD
-    local tools emulator
     find_kit
     find_program "$1"
     name_copy
@@ -153,10 +163,7 @@ make_ready() { # WORD
         [ -x "$copy" ] || build
         exec 9>&-
     fi
-    tools=$kit/on/$(uname -m)/toolchain
-    emulator=$tools/bin/qemu-x86_64
-    program=("$tools/lib/ld-linux-x86-64.so.2" --library-path "$tools/lib" "$copy")
-    [ ! -x "$emulator" ] || program=("$emulator" "${program[@]}")
+    program=$copy
 }
 
 # Runs `program` on standard input, or on what the function FEED writes. A program of Rattle has no exit status of its own: what it has to
@@ -169,10 +176,10 @@ run_program() { # [FEED]
     said=$(
         {
             if [ $# -gt 0 ]; then
-                "$1" 2>&8 7>&- 8>&- | "${program[@]}" 2>&1 >&7 7>&- 8>&-
+                "$1" 2>&8 7>&- 8>&- | "$program" 2>&1 >&7 7>&- 8>&-
                 statuses=("${PIPESTATUS[@]}")
             else
-                "${program[@]}" 2>&1 >&7 7>&- 8>&-
+                "$program" 2>&1 >&7 7>&- 8>&-
                 statuses=(0 $?)
             fi
         } 2>/dev/null

@@ -1,0 +1,152 @@
+"""Whether each wrong answer of the must-fail edits is refused by what its edit says: it prints what differs, and nothing where nothing does.
+
+An edit has one or more wrong answers, each with its name and with what must refuse it: functions, or a theorem of a file of proofs/.
+    wrong: cycle_does_nothing
+    refused by: Drive::cycle
+    file: src/calls.rt
+    old: ..
+    new: ..
+`rt ci` asks only whether the crate is refused, and keeps no log. Here each edit is made in a copy, which `rt check` looks at, and each name
+must be refused by an error of its own, not because something that it rests on is; where code alone is changed nothing else may be. So one
+check tries many wrong answers. A function whose callees wait for proofs of their own may not be looked at: a wrong answer that one log does
+not show is tried once more, alone.
+It cannot tell a fact that does not hold from a proof that no longer fits: for that read the logs, target/refused/CRATE/EDIT, down to the
+notes.
+Exit status: 0 refused as they say; 1 not so, or a write failed; 2 wrong use, or the kit is missing, or a crate is not proved as it stands."""
+
+import os
+import re
+import shutil
+import subprocess
+import sys
+import tempfile
+from concurrent.futures import Future, ThreadPoolExecutor
+from pathlib import Path
+from typing import Iterator, List, NamedTuple, Set
+
+from .arguments import parser_of
+from .edits import Answer, answers, edits
+from .places import ROOT, crate_folder, crates_below, crates_of
+
+LOGS = ROOT / "target" / "refused"
+PARTS = ("src", "specs", "proofs")
+# No check takes more than this.
+MOST_MEMORY = 3 * 2**30
+ERROR = re.compile(r"(?:\./)?proofs/(\S+)\.antt:\d+:\d+: error: `([^`]*)`: (?!.*\bwas (?:not admitted|rejected)\b)")
+# What rattle's own search left open, or what has no invariant that fits.
+OPEN = re.compile(r"fn (\S+): no proof: expected ")
+ENDED = re.compile(r"^logic=(?:not-)?proved", re.M)
+
+
+class Unread(Exception):
+    """A check that says nothing of the edited text."""
+
+
+def refused_in(log: str, crate: str) -> Set[str]:
+    """What a log shows to be refused by itself: functions and theorems with an error of their own."""
+    found = set()
+    for line in log.split("\n"):
+        error, left_open = ERROR.match(line), OPEN.match(line)
+        if error:
+            folder, _, file = error[1].rpartition("/")
+            found.add(folder.replace("/", "::") if folder else f"{file}.antt {error[2]}")
+        elif left_open:
+            found.add(left_open[1].removeprefix(f"{crate}::"))
+    return found
+
+
+def lay_out(crate: str, place: Path) -> Path:
+    """A crate and those that it knows, in a folder of their own; the crate's folder there."""
+    known = crates_below(crate, ROOT)
+    crates = crates_of(ROOT)
+    for name in known:
+        for part in PARTS:
+            if (crate_folder(name) / part).is_dir():
+                shutil.copytree(crate_folder(name) / part, crate_folder(name, place) / part)
+    (place / "crates.txt").write_text("".join(f"{name}: {' '.join(crates[name])}\n" for name in known))
+    return crate_folder(crate, place)
+
+
+def change(folder: Path, wrong: List[Answer]) -> None:
+    for file, old, new in (pair for answer in wrong for pair in answer.pairs):
+        text = (folder / file).read_text(encoding="utf-8")
+        if text.count(old) != 1:
+            raise Unread(f"{file} does not have `{old}` once")
+        (folder / file).write_text(text.replace(old, new), encoding="utf-8")
+
+
+def log_of(crate: str, wrong: List[Answer], name: str) -> str:
+    """What a check says of a crate with these wrong answers. The log stays, by its name."""
+    with tempfile.TemporaryDirectory() as place:
+        folder = lay_out(crate, Path(place))
+        change(folder, wrong)
+        done = subprocess.run(["rt", "check", "--jobs", "1"], cwd=folder, stdin=subprocess.DEVNULL, stdout=subprocess.PIPE,
+                              stderr=subprocess.STDOUT, text=True, errors="replace", check=False)  # fmt: skip
+    kept = LOGS / crate / name
+    kept.parent.mkdir(parents=True, exist_ok=True)
+    kept.write_text(done.stdout)
+    if not ENDED.search(done.stdout):
+        raise Unread(f"its check ended with status {done.returncode} and no verdict")
+    return done.stdout
+
+
+def differs(crate: str, label: str, wrong: List[Answer]) -> Iterator[str]:
+    """How what refuses an edit differs from what the edit says."""
+    shown = refused_in(log_of(crate, wrong, label), crate)
+    for answer in wrong:
+        missing = set(answer.refusers) - shown
+        if missing and len(wrong) > 1:
+            missing -= refused_in(log_of(crate, [answer], f"{label}.{answer.name}"), crate)
+        yield from (f"{answer.name}: {name} does not refuse it by an error of its own." for name in sorted(missing))
+    if not any(file.startswith("specs/") for answer in wrong for file, _, _ in answer.pairs):
+        named = {name for answer in wrong for name in answer.refusers}
+        yield from (f"{name} refuses it, and the edit does not say so." for name in sorted(shown - named))
+
+
+class Tried(NamedTuple):
+    crate: str
+    label: str
+    said: "Future[List[str]]"
+
+
+def tried(crate: str, edit: Path) -> List[str]:
+    try:
+        return list(differs(crate, edit.stem, answers(edit)))
+    except Unread as reason:
+        return [f"{reason}."]
+
+
+def workers() -> int:
+    """A check for each processor, and no more than memory is free for."""
+    free = re.search(r"^MemAvailable: +(\d+)", Path("/proc/meminfo").read_text(), re.M)
+    return max(1, min(len(os.sched_getaffinity(0)), int(free[1]) * 1024 // MOST_MEMORY if free else 1))
+
+
+def main() -> int:
+    parser = parser_of("refused", __doc__, folder=".ci/")
+    parser.add_argument("crate", nargs="*", metavar="CRATE", help="crates of crates.txt; without one, all")
+    chosen = parser.parse_args().crate
+    for crate in chosen:
+        if crate not in crates_of(ROOT):
+            parser.error(f"crates.txt lists no {crate}")
+    if not shutil.which("rt"):
+        print("The Rattle kit is missing: its command rt is not on the PATH.", file=sys.stderr)
+        return 2
+    found: List[Tried] = []
+    with ThreadPoolExecutor(workers()) as pool:
+        for crate in chosen or crates_of(ROOT):
+            of_crate = [edit for edit in edits(ROOT) if edit.parent.parent.name == crate]
+            # What a check of the crate as it stands keeps, those of its edits begin with.
+            if of_crate and subprocess.run(["rt", "check"], cwd=crate_folder(crate), stdin=subprocess.DEVNULL, capture_output=True,
+                                           check=False).returncode:  # fmt: skip
+                print(f"{crate} is not proved as it stands.", file=sys.stderr)
+                pool.shutdown(cancel_futures=True)
+                return 2
+            found += [Tried(crate, edit.stem, pool.submit(tried, crate, edit)) for edit in of_crate]
+    status = 0
+    for one in found:
+        if one.said.result():
+            status = 1
+            log = (LOGS / one.crate / one.label).relative_to(ROOT)
+            print(f"must-fail {one.crate}/{one.label}: not refused as it says ({log}):", *one.said.result(), sep="\n    ")
+    return status
