@@ -1,5 +1,6 @@
 // Reads a report line back, for whoever has only the lines of a board, of today or of earlier.
 #![tactic(auto)]
+
 mod fields_in;
 mod values;
 
