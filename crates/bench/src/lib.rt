@@ -1,5 +1,6 @@
 // The library of `benchline`: every call that its records can ask for, and whole answers as lines of decimal numbers.
 #![tactic(auto)]
+
 mod find;
 mod line;
 mod numbered;

@@ -27,7 +27,7 @@ use Rattle.moves.proofs.Ways.{goes, way_of}
 use Rattle.drive.specs.declared.Drive.{Drive}
 use Rattle.fields.specs.declared.Tick.{Tick}
 use Rattle.states.specs.declared.State.{State}
-use Rattle.states.specs.declared.State.TheVariants.{Stop, OffsetCal, BtsCharge, Fault}
+use Rattle.states.specs.declared.State.TheVariants.{Idle, Stop, OffsetCal, BtsCharge, MotorRun, Fault, CatchSpin, Parking, OpenLoop, AngleSensing}
 use Rattle.moves.specs.declared.Grounds.{Grounds}
 use Rattle.moves.specs.declared.Move.{Move}
 use Rattle.moves.specs.declared.Move.TheVariants.{Stay, Enter, Measure, Clear, Retry}
@@ -206,7 +206,7 @@ module _ (d : Drive) (t : Tick) (waited : ℕ) where
         tt tt tt tt (no_cause free) (trip tt) tt (λ now. tt) tt clear
         (unarmed armed (low settings t) fault)
         refl
-    by_move Fault Retry loaded fault late trip apart (tries_again free no-clear mode nth room) =
+    by_move Fault Retry loaded fault late trip apart (tries_again free no-clear mode in-time room) =
         let after = next Fault Retry in
         let before = late tt in
         Steps.retries (inside (at Fault)) (note_of Fault after) (inside after) (gates_ask 0 0 after) (omega arith)
@@ -214,6 +214,34 @@ module _ (d : Drive) (t : Tick) (waited : ℕ) where
         tt tt tt tt (no_cause free) (trip tt) tt (λ now. tt) tt no-clear
         (yes_and (mode1 settings) (leb 10000 (suc waited)) mode (le→leb 10000 (suc waited) (omega arith)))
         (omega (arith, room))
+    -- no way leads from another state to these moves
+    by_move Idle Measure loaded fault late trip apart _ = elim loaded [ ]
+    by_move Stop Measure loaded fault late trip apart way = elim way [ ]
+    by_move BtsCharge Measure loaded fault late trip apart way = elim way [ ]
+    by_move MotorRun Measure loaded fault late trip apart way = elim way [ ]
+    by_move Fault Measure loaded fault late trip apart way = elim way [ ]
+    by_move CatchSpin Measure loaded fault late trip apart way = elim way [ ]
+    by_move Parking Measure loaded fault late trip apart way = elim way [ ]
+    by_move OpenLoop Measure loaded fault late trip apart way = elim way [ ]
+    by_move AngleSensing Measure loaded fault late trip apart way = elim way [ ]
+    by_move Idle Clear loaded fault late trip apart _ = elim loaded [ ]
+    by_move Stop Clear loaded fault late trip apart way = elim way [ ]
+    by_move OffsetCal Clear loaded fault late trip apart way = elim way [ ]
+    by_move BtsCharge Clear loaded fault late trip apart way = elim way [ ]
+    by_move MotorRun Clear loaded fault late trip apart way = elim way [ ]
+    by_move CatchSpin Clear loaded fault late trip apart way = elim way [ ]
+    by_move Parking Clear loaded fault late trip apart way = elim way [ ]
+    by_move OpenLoop Clear loaded fault late trip apart way = elim way [ ]
+    by_move AngleSensing Clear loaded fault late trip apart way = elim way [ ]
+    by_move Idle Retry loaded fault late trip apart _ = elim loaded [ ]
+    by_move Stop Retry loaded fault late trip apart way = elim way [ ]
+    by_move OffsetCal Retry loaded fault late trip apart way = elim way [ ]
+    by_move BtsCharge Retry loaded fault late trip apart way = elim way [ ]
+    by_move MotorRun Retry loaded fault late trip apart way = elim way [ ]
+    by_move CatchSpin Retry loaded fault late trip apart way = elim way [ ]
+    by_move Parking Retry loaded fault late trip apart way = elim way [ ]
+    by_move OpenLoop Retry loaded fault late trip apart way = elim way [ ]
+    by_move AngleSensing Retry loaded fault late trip apart way = elim way [ ]
 
     -- the tick itself
     pub tick_obeys :
