@@ -68,7 +68,7 @@ def braces_expanded(path: str) -> List[str]:
 
 def in_any_part(file: str, crate: str = "*") -> List[str]:
     """The patterns of a file of a crate. What a build leaves in out/ is not looked into: it may be building at this moment."""
-    return [f"crates/{crate}/{part}/**/{file}" for part in (*PARTS, "must-fail")]
+    return [f"crates/{crate}/{file}", *(f"crates/{crate}/{part}/**/{file}" for part in (*PARTS, "must-fail"))]
 
 
 def is_there(root: Path, path: str) -> bool:
@@ -78,7 +78,7 @@ def is_there(root: Path, path: str) -> bool:
         return True
     patterns = [bare, f"crates/{bare}"]
     if "/" not in bare:
-        patterns += [f"crates/*/{bare}", *in_any_part(bare)]
+        patterns += in_any_part(bare)
     elif "." not in bare and bare.count("/") == 1 and is_wrong_answer(root, *bare.split("/")):
         return True
     return any(next(root.glob(pattern), None) for pattern in patterns)
