@@ -33,6 +33,9 @@ MADE = ("target/", "model/target/")
 # Names that stand for others, or that a landing of the past tells of: document and name, and why it need not be there.
 EXEMPT = {
     ("docs/PAPER.md", "crate/name"): "the form of an edit's name",
+    ("docs/ARCHITECTURE.md", "crates/NAME"): "the form of a crate's folder",
+    ("docs/ARCHITECTURE.md", "proofs/FUNCTION/Answers.antt"): "the form of a proof's file",
+    ("docs/ARCHITECTURE.md", "proofs/FUNCTION/Invariants.antt"): "the form of a proof's file",
 }
 
 
