@@ -15,7 +15,7 @@ from pathlib import Path
 from typing import Iterator, List, NamedTuple, Optional, Tuple
 
 from .edits import is_wrong_answer
-from .places import crates_of
+from .places import PARTS, crates_of
 
 ENDINGS = "antt|rt|rs|py|md|txt|svg|edit|toml"
 PATH = re.compile(rf"[\w.*{{}},/-]*(/|\.({ENDINGS}))[\w.*{{}},/-]*")
@@ -33,6 +33,9 @@ MADE = ("target/", "model/target/")
 # Names that stand for others, or that a landing of the past tells of: document and name, and why it need not be there.
 EXEMPT = {
     ("docs/PAPER.md", "crate/name"): "the form of an edit's name",
+    ("docs/ARCHITECTURE.md", "crates/NAME"): "the form of a crate's folder",
+    ("docs/ARCHITECTURE.md", "proofs/FUNCTION/Answers.antt"): "the form of a proof's file",
+    ("docs/ARCHITECTURE.md", "proofs/FUNCTION/Invariants.antt"): "the form of a proof's file",
 }
 
 
@@ -66,6 +69,11 @@ def braces_expanded(path: str) -> List[str]:
     return list(chain.from_iterable(braces_expanded(path[: found.start()] + one + path[found.end() :]) for one in choices))
 
 
+def in_any_part(file: str, crate: str = "*") -> List[str]:
+    """The patterns of a file of a crate. What a build leaves in out/ is not looked into: it may be building at this moment."""
+    return [f"crates/{crate}/{file}", *(f"crates/{crate}/{part}/**/{file}" for part in (*PARTS, "must-fail"))]
+
+
 def is_there(root: Path, path: str) -> bool:
     """Whether a path without braces leads to something: from the root, from crates/, as an edit, or anywhere where it is a bare name."""
     bare = path.rstrip("/")
@@ -73,7 +81,7 @@ def is_there(root: Path, path: str) -> bool:
         return True
     patterns = [bare, f"crates/{bare}"]
     if "/" not in bare:
-        patterns += [f"crates/*/{bare}", f"crates/**/{bare}"]
+        patterns += in_any_part(bare)
     elif "." not in bare and bare.count("/") == 1 and is_wrong_answer(root, *bare.split("/")):
         return True
     return any(next(root.glob(pattern), None) for pattern in patterns)
@@ -101,7 +109,7 @@ def missing_paths(root: Path, line: str) -> Iterator[Tuple[str, str]]:
 
 
 def files_of(root: Path, crate: Optional[str], file: str) -> List[Path]:
-    return sorted(root.glob(f"crates/{crate or '*'}/**/{file}"))
+    return sorted(found for pattern in in_any_part(file, crate or "*") for found in root.glob(pattern))
 
 
 def missing_names(root: Path, line: str) -> Iterator[Tuple[str, str]]:

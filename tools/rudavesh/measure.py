@@ -1,6 +1,7 @@
 """How long the last check took and how big each crate is, as the table that a landing's note carries.
 
-Reads what `rt ci` left under target/. `rt check` leaves the same but for the edits; a crate that it found unchanged has no time.
+Reads what `.ci/refused` left under target/: its checks begin with what earlier ones kept on this machine, so a crate's time is that of what
+had changed since. A crate without edits has none.
 Lines are without blank ones and comments. An edit's time is the mean over the crate's must-fail edits, each of which tries several
 wrong answers.
 --totals needs no check: lines of all crates together, and the longest line and the files over 300 lines of crates, model and tools.
@@ -43,7 +44,7 @@ def row(root: Path, name: str) -> str:
     """The row of one crate."""
     crate, log = crate_folder(name, root), root / "target" / "log" / f"{name}.out"
     said = log.read_text() if log.exists() else ""
-    check = seconds_in(said, rf"rt: {name} proved \(")
+    check = seconds_in(said, rf": {name} proved \(")
     wrong = sum(len(refusers(edit)) for edit in (crate / "must-fail").glob("*.edit"))
     tried = [out.read_text() for out in (root / "target" / "must-fail" / name).glob("*.out")]
     took = [seconds for text in tried for seconds in seconds_in(text, "refused, as it must be")]
@@ -81,7 +82,7 @@ def main() -> int:
         print(TOTALS_HEAD, *totals(ROOT), sep="\n")
         return 0
     if not (ROOT / "target" / "log").exists():
-        print("Nothing is checked here yet: run `rt ci` first, and `tools/measure` then reads what it left.", file=sys.stderr)
+        print("Nothing is checked here yet: run `.ci/refused` first, and `tools/measure` then reads what it left.", file=sys.stderr)
         return 2
     print(HEAD, *(row(ROOT, name) for name in crates_of(ROOT)), sep="\n")
     return 0

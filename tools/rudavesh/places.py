@@ -6,6 +6,8 @@ from typing import Dict, List
 
 ROOT = Path(__file__).resolve().parents[2]
 TOOLS = ROOT / "tools"
+# What a check reads of a crate.
+PARTS = ("src", "specs", "proofs")
 
 
 def listed(text: str) -> Dict[str, List[str]]:

@@ -10,8 +10,8 @@ An edit has one or more wrong answers, each with its name and with what must ref
 must be refused by an error of its own, not because something that it rests on is; where code alone is changed nothing else may be. So one
 check tries many wrong answers. A function whose callees wait for proofs of their own may not be looked at: a wrong answer that one log does
 not show is tried once more, alone.
-It cannot tell a fact that does not hold from a proof that no longer fits: for that read the logs, target/refused/CRATE/EDIT, down to the
-notes.
+It cannot tell a fact that does not hold from a proof that no longer fits: for that read the logs, target/must-fail/CRATE/EDIT.out, down to
+the notes.
 Exit status: 0 refused as they say; 1 not so, or a write failed; 2 wrong use, or the kit is missing, or a crate is not proved as it stands."""
 
 import os
@@ -20,16 +20,17 @@ import shutil
 import subprocess
 import sys
 import tempfile
+import time
 from concurrent.futures import Future, ThreadPoolExecutor
 from pathlib import Path
-from typing import Iterator, List, NamedTuple, Set
+from typing import Iterator, List, NamedTuple, Set, Tuple
 
 from .arguments import parser_of
 from .edits import Answer, answers, edits
-from .places import ROOT, crate_folder, crates_below, crates_of
+from .places import PARTS, ROOT, crate_folder, crates_below, crates_of
 
-LOGS = ROOT / "target" / "refused"
-PARTS = ("src", "specs", "proofs")
+LOGS = ROOT / "target" / "must-fail"
+OF_CRATES = ROOT / "target" / "log"
 # No check takes more than this.
 MOST_MEMORY = 3 * 2**30
 ERROR = re.compile(r"(?:\./)?proofs/(\S+)\.antt:\d+:\d+: error: `([^`]*)`: (?!.*\bwas (?:not admitted|rejected)\b)")
@@ -75,28 +76,49 @@ def change(folder: Path, wrong: List[Answer]) -> None:
         (folder / file).write_text(text.replace(old, new), encoding="utf-8")
 
 
+def checked(folder: Path, *words: str) -> Tuple[str, int]:
+    """What a check says of the crate in a folder, and how many seconds it took."""
+    began = time.monotonic()
+    done = subprocess.run(["rt", "check", *words], cwd=folder, stdin=subprocess.DEVNULL, stdout=subprocess.PIPE, stderr=subprocess.STDOUT,
+                          text=True, errors="replace", check=False)  # fmt: skip
+    return done.stdout, round(time.monotonic() - began)
+
+
+def keep(log: Path, said: str, word: str) -> None:
+    log.parent.mkdir(parents=True, exist_ok=True)
+    log.write_text(f"{said}.ci/refused: {word}\n")
+
+
 def log_of(crate: str, wrong: List[Answer], name: str) -> str:
-    """What a check says of a crate with these wrong answers. The log stays, by its name."""
+    """What a check says of a crate with these wrong answers. It stays, by its name."""
     with tempfile.TemporaryDirectory() as place:
         folder = lay_out(crate, Path(place))
         change(folder, wrong)
-        done = subprocess.run(["rt", "check", "--jobs", "1"], cwd=folder, stdin=subprocess.DEVNULL, stdout=subprocess.PIPE,
-                              stderr=subprocess.STDOUT, text=True, errors="replace", check=False)  # fmt: skip
-    kept = LOGS / crate / name
-    kept.parent.mkdir(parents=True, exist_ok=True)
-    kept.write_text(done.stdout)
-    if not ENDED.search(done.stdout):
-        raise Unread(f"its check ended with status {done.returncode} and no verdict")
-    return done.stdout
+        said, seconds = checked(folder, "--jobs", "1")
+    verdict = ENDED.search(said)
+    word = "refused, as it must be" if verdict and verdict[0] == "logic=not-proved" else "not refused"
+    keep(LOGS / crate / name, said, f"{crate}/{name}: {word} ({seconds} s)")
+    if not verdict:
+        raise Unread(f"its check ended without a verdict ({(LOGS / crate / name).relative_to(ROOT)})")
+    return said
+
+
+def is_proved(crate: str) -> bool:
+    """Whether a crate is proved as it stands. What its check keeps, those of its edits begin with."""
+    said, seconds = checked(crate_folder(crate))
+    verdict = ENDED.search(said)
+    proved = bool(verdict and verdict[0] == "logic=proved")
+    keep(OF_CRATES / f"{crate}.out", said, f"{crate} {'' if proved else 'not '}proved ({seconds} s)")
+    return proved
 
 
 def differs(crate: str, label: str, wrong: List[Answer]) -> Iterator[str]:
     """How what refuses an edit differs from what the edit says."""
-    shown = refused_in(log_of(crate, wrong, label), crate)
+    shown = refused_in(log_of(crate, wrong, f"{label}.out"), crate)
     for answer in wrong:
         missing = set(answer.refusers) - shown
         if missing and len(wrong) > 1:
-            missing -= refused_in(log_of(crate, [answer], f"{label}.{answer.name}"), crate)
+            missing -= refused_in(log_of(crate, [answer], f"{label}.{answer.name}.alone"), crate)
         yield from (f"{answer.name}: {name} does not refuse it by an error of its own." for name in sorted(missing))
     if not any(file.startswith("specs/") for answer in wrong for file, _, _ in answer.pairs):
         named = {name for answer in wrong for name in answer.refusers}
@@ -136,10 +158,8 @@ def main() -> int:
     with ThreadPoolExecutor(workers()) as pool:
         for crate in chosen or crates_of(ROOT):
             of_crate = [edit for edit in edits(ROOT) if edit.parent.parent.name == crate]
-            # What a check of the crate as it stands keeps, those of its edits begin with.
-            if of_crate and subprocess.run(["rt", "check"], cwd=crate_folder(crate), stdin=subprocess.DEVNULL, capture_output=True,
-                                           check=False).returncode:  # fmt: skip
-                print(f"{crate} is not proved as it stands.", file=sys.stderr)
+            if of_crate and not is_proved(crate):
+                print(f"{crate} is not proved as it stands: target/log/{crate}.out says why.", file=sys.stderr)
                 pool.shutdown(cancel_futures=True)
                 return 2
             found += [Tried(crate, edit.stem, pool.submit(tried, crate, edit)) for edit in of_crate]
@@ -147,6 +167,6 @@ def main() -> int:
     for one in found:
         if one.said.result():
             status = 1
-            log = (LOGS / one.crate / one.label).relative_to(ROOT)
+            log = (LOGS / one.crate / f"{one.label}.out").relative_to(ROOT)
             print(f"must-fail {one.crate}/{one.label}: not refused as it says ({log}):", *one.said.result(), sep="\n    ")
     return status

@@ -40,4 +40,5 @@ def written_files(root: Path = places.ROOT) -> List[Path]:
     model, tools = root / "model", root / "tools"
     commands = [file for folder in (tools, tools / "shell") for file in sorted(folder.glob("*")) if file.is_file() and is_shell(file)]
     rust = [file for folder in (model / "src", model / "tests", tools) for file in sorted(folder.glob("**/*.rs"))]
-    return rattle_files(root / "crates") + rust + sorted(tools.glob("**/*.py")) + commands
+    rattle = [file for part in places.PARTS for folder in sorted(root.glob(f"crates/*/{part}")) for file in rattle_files(folder)]
+    return rattle + rust + sorted(tools.glob("**/*.py")) + commands

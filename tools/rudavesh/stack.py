@@ -1,6 +1,6 @@
 """What the line call takes: bytes of the stack, instructions and time. Of the tree as it stands, and of each REVISION beside it.
 
-Of each tree the line call is proved and compiled to the optimised archive that `rt staticlib` makes for programs in C and Rust. The stack
+Of each tree the line call is proved and compiled to the optimised archive that `rt lib` makes of a static library for programs in C and Rust. The stack
 is read off its machine code, which objdump prints: the frame of `report::line` (the address that it returns to, what it saves, by how much
 it lowers the stack's pointer, how far below that it goes), and the deepest way through what it calls. A program in Rust then asks each
 archive for a million lines: the best time of twenty runs, in turn; the instructions of a line on average, where valgrind can count them;
@@ -21,7 +21,7 @@ from typing import List, NamedTuple, Optional, Tuple
 
 from .arguments import from_one, parser_of
 from .frames import WORD, Frame, Unreadable, deepest, frames
-from .places import ROOT, crate_folder, crates_below
+from .places import PARTS, ROOT, crate_folder, crates_below, crates_of
 
 LINE, CALL = "report::line", "line_for_c"  # the line call in the archive, and around it the one that C knows
 
@@ -30,7 +30,7 @@ def for_c(name: str, result: str, told: str) -> str:
     """A function for C around the line call. A line shows seven fields of an answer: the others, also those that later requests add, are as
     power-up has them."""
     return f"""
-#[no_mangle]
+#[unsafe(no_mangle)]
 pub extern "C" fn {name}(
     number: u8, state: u8, gate: u8, live: u16, reference: i16, position: u32, angle: i16, lent: &mut [u8]
 ) -> {result} {{
@@ -49,7 +49,7 @@ pub extern "C" fn {name}(
 
 # What is called in one place the compiler puts there. In three it stays a function of its own, as in a program, and its frame is its own.
 SOURCE = "".join([
-    "use drive::Drive;\nuse drive::answer::answered;\n",
+    "#![tactic(auto)]\n\nuse drive::Drive;\nuse drive::answer::answered;\n",
     for_c(CALL, "u16", "verdict.number as u16 * 256 + verdict.place as u16"),
     for_c("number_for_c", "u8", "verdict.number"),
     for_c("place_for_c", "u8", "verdict.place"),
@@ -58,7 +58,6 @@ CALLER = Path(__file__).with_name("million_lines.rs")
 MILLION, COUNTED, RUNS = 1_000_000, 10_000, 20  # lines that are timed and compared, lines that valgrind counts, runs that are timed
 NAMES = {"rt": "the Rattle kit is missing: its command rt", "objdump": "objdump (of binutils)"}
 AS_IT_STANDS = "as it stands"
-ARCHIVES = Path("target") / "staticlib"
 
 
 class Tree(NamedTuple):
@@ -86,40 +85,45 @@ def said(*words: object, folder: Optional[Path] = None) -> str:
     return done.stdout
 
 
-def lay_out(place: Path, revision: str, proved: Path) -> None:
-    """The crates of a revision in a folder, and the line call for C above them. What is proved in another folder is not proved again."""
-    (place / "target").mkdir(parents=True)
+def lay_out(place: Path, revision: str) -> Path:
+    """The crates of a revision in a folder, and the line call for C above them; the folder of that."""
     if revision == AS_IT_STANDS:
-        said("cp", "-r", "crates", "crates.txt", place, folder=ROOT)
+        said("cp", "crates.txt", place, folder=ROOT)
+        for name in crates_below("report", place):
+            parts = [crate_folder(name) / part for part in PARTS if (crate_folder(name) / part).is_dir()]
+            crate_folder(name, place).mkdir(parents=True)
+            said("cp", "-r", *parts, crate_folder(name, place))
     else:
         said("git", "archive", f"--output={place}/tree.tar", revision, "crates", "crates.txt", folder=ROOT)
         with tarfile.open(place / "tree.tar") as tree:
             tree.extractall(place)
     known = crates_below("report", place)
-    for part, ending in (("rlib", ".rlib"), ("stamp", "")):
-        (place / "target" / part).mkdir()
-        kept = [proved / part / f"{name}{ending}" for name in known if (proved / "stamp" / name).exists()]
-        if kept:
-            said("cp", "-r", *kept, place / "target" / part)
+    crates = crates_of(place)
     source = crate_folder(CALL, place) / "src" / "lib.rt"
     source.parent.mkdir(parents=True)
     source.write_text(SOURCE)
-    with (place / "crates.txt").open("a") as crates:
-        crates.write(f"{CALL}: {' '.join(known)}\n")
+    lines = [*(f"{name}: {' '.join(crates[name])}" for name in known), f"{CALL} staticlib: {' '.join(known)}"]
+    (place / "crates.txt").write_text("\n".join(lines) + "\n")
+    return crate_folder(CALL, place)
 
 
-def compiled(place: Path, revision: str, proved: Path) -> Tree:
+def compiled(place: Path, revision: str) -> Tree:
     """A tree in a folder, with its archive made and looked into."""
     print(f"tools/stack: proving and compiling: {revision}.", file=sys.stderr)
-    lay_out(place, revision, proved)
-    said("rt", "staticlib", CALL, folder=place)
-    known = frames(said("objdump", "-d", "-r", "--no-show-raw-insn", place / ARCHIVES / f"lib{CALL}.a"))
+    place.mkdir()
+    said("rt", "lib", folder=lay_out(place, revision))
+    known = frames(said("objdump", "-d", "-r", "--no-show-raw-insn", archives(place) / f"lib{CALL}.a"))
     depth, way = deepest(known, LINE)
     return Tree(revision, place, known[LINE], depth, way[1:], deepest(known, CALL)[0])
 
 
+def archives(place: Path) -> Path:
+    """The folder of what rt builds of the line call for C."""
+    return crate_folder(CALL, place) / "out"
+
+
 def link(tree: Tree) -> None:
-    said("rustc", "-O", "--edition=2021", "-L", tree.place / ARCHIVES, "-o", tree.program, CALLER)
+    said("rustc", "-O", "--edition=2021", "-L", archives(tree.place), "-o", tree.program, CALLER)
 
 
 def instructions(tree: Tree) -> str:
@@ -178,13 +182,8 @@ def missing(*commands: str) -> bool:
 
 
 def measured(revisions: List[str], folder: Path) -> List[Tree]:
-    """The trees, each in a folder of its own. What is proved of one is not proved again of the next."""
-    trees: List[Tree] = []
-    proved = ROOT / "target"
-    for revision in [*revisions, AS_IT_STANDS]:
-        trees.append(compiled(folder / str(len(trees)), revision, proved))
-        proved = trees[-1].place / "target"
-    return trees
+    """The trees, each in a folder of its own. What is proved of one rt does not prove again of the next."""
+    return [compiled(folder / str(number), revision) for number, revision in enumerate([*revisions, AS_IT_STANDS])]
 
 
 def compared(trees: List[Tree]) -> int:

@@ -1,5 +1,6 @@
 """Every must-fail edit finds the text that it replaces and says what refuses it; and `.ci/refused` holds the logs against that."""
 
+import os
 import shutil
 import subprocess
 import tempfile
@@ -23,17 +24,25 @@ old: z
 new: w
 """
 
-# as rattle prints them: two errors of their own, a caller of an unproved function, and a theorem's error
-LOG = """/t/must-fail/pump/first/proofs/Drive/cycle/Proof.antt:10:5: error: `returns`: give a proof of that as the last argument
-/t/must-fail/pump/first/proofs/Drive/cycle/Proof.antt:19:85: error: `cycle-spec`: `returns` was not admitted (it was rejected)
-/t/must-fail/pump/first/proofs/run/Proof.antt:4:5: error: `run-spec`: `close` was not admitted (it was rejected), so this cannot be checked
-/t/must-fail/pump/first/proofs/OneReply.antt:7:2: error: `power-up`: expected type `x`
+# as rattle prints them: errors of their own, what only rests on those, and a theorem's error
+LOG = """./proofs/Drive/cycle/Answers.antt:10:5: error: `returns`: give a proof of that as the last argument
+./proofs/run/Answers.antt:4:5: error: 2 declarations that depend on `close`, which was rejected, were not checked: returns, stays
+./proofs/OneReply.antt:7:2: error: `power-up`: expected type `x`
+./proofs/Laws.antt:9:5: error: 1 declaration that depends on `power-up`, which was not admitted, was not checked: law
 fn pump::Drive::cycle: not proved
-fn pump::Drive::tick: no proof: expected `tick-spec` in proofs/Drive/tick/Proof.antt; `search` does not close `returns`
+fn pump::Drive::tick: no proof: expected answers in ./proofs/Drive/tick/Answers.antt; `search` did not prove `returns`
+note: `search` has not tried the goals of `pump::run`, which wait for a callee's proof: some may be open after it
 fn pump::run: not proved; it calls `pump::Drive::cycle`, which is not proved
-fn pump::main: no proof: expected `main-spec` in proofs/main/Proof.antt; it calls `pump::run`, which is not proved
+fn pump::main: no proof: it calls `pump::run`, which is not proved
+fn pump::stop: no proof: its contract rests on `close`, which antt did not admit: help: fix that first
 fn pump::other: proved
 logic=not-proved
+"""
+# proves a crate as it stands, and refuses one with an edit, or with its second wrong answer alone, by what lies beside it
+RT = """#!/bin/sh
+if grep -rq y src specs; then cat "$LOGS/log"; exit 1; fi
+if grep -rq w src specs; then cat "$LOGS/alone"; exit 1; fi
+echo "logic=proved functions=1"
 """
 
 
@@ -52,7 +61,7 @@ class Edits(unittest.TestCase):
         self.none(edits.twice())
 
     def faults_of(self, text: str, asked: Callable[[Path], Iterator[edits.Fault]]) -> List[str]:
-        with tempfile.TemporaryDirectory(dir=places.ROOT / "tools") as folder:
+        with tempfile.TemporaryDirectory() as folder:
             crate = Path(folder) / "crate"
             (crate / "must-fail").mkdir(parents=True)
             (crate / "lib.rt").write_text("a < b")
@@ -74,17 +83,28 @@ class Edits(unittest.TestCase):
 
 
 class Refused(unittest.TestCase):
-    """A tree with one edit and the log that rt left of it."""
+    """A tree with one edit, and a kit that says of it what a log says."""
 
-    def asked(self, edit: str, log: str) -> "subprocess.CompletedProcess[str]":
+    def asked(self, edit: str, log: str, alone: str = "logic=not-proved\n") -> "subprocess.CompletedProcess[str]":
         with tempfile.TemporaryDirectory() as folder:
-            root = Path(folder)
-            for path, text in {"crates/pump/must-fail/first.edit": edit, "target/must-fail/pump/first/.log": log}.items():
-                (root / path).parent.mkdir(parents=True)
-                (root / path).write_text(text)
+            root, kit = Path(folder) / "tree", Path(folder) / "kit"
+            for file, text in {
+                root / "crates.txt": "pump:\n",
+                root / "crates/pump/src/lib.rt": "x\nz\n",
+                root / "crates/pump/specs/Lib.antt": "x\nz\n",
+                root / "crates/pump/must-fail/first.edit": edit,
+                kit / "rt": RT,
+                kit / "log": log,
+                kit / "alone": alone,
+            }.items():
+                file.parent.mkdir(parents=True, exist_ok=True)
+                file.write_text(text)
+            (kit / "rt").chmod(0o755)
+            shutil.copytree(places.TOOLS, root / "tools", ignore=shutil.ignore_patterns("tests", "__pycache__"))
             (root / ".ci").mkdir()
             shutil.copy(places.ROOT / ".ci" / "refused", root / ".ci")
-            return subprocess.run([root / ".ci" / "refused"], capture_output=True, text=True, check=False)
+            there = {**os.environ, "PATH": f"{kit}:{os.environ['PATH']}", "LOGS": str(kit)}
+            return subprocess.run([root / ".ci" / "refused"], capture_output=True, text=True, check=False, env=there)
 
     def test_refused_by_what_it_says(self) -> None:
         run = self.asked(EDIT, LOG)
@@ -100,6 +120,11 @@ class Refused(unittest.TestCase):
         text = EDIT.replace(", Drive::tick", "").replace("file: src/lib.rt", "file: specs/Lib.antt")
         self.assertEqual(self.asked(text, LOG).returncode, 0)
         self.assertEqual(self.asked(text, LOG.replace("`power-up`", "`load`")).returncode, 1)
+
+    def test_what_one_log_does_not_show_is_tried_alone(self) -> None:
+        lines = LOG.replace("`power-up`: expected", "`load`: expected").replace("./proofs/OneReply.antt", "./src/lib.rt")
+        self.assertEqual(self.asked(EDIT, lines).returncode, 1)
+        self.assertEqual(self.asked(EDIT, lines, LOG).returncode, 0)
 
     def test_no_log(self) -> None:
         run = self.asked(EDIT.replace("wrong: a", "wrong: c"), "")

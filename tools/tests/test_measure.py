@@ -6,7 +6,7 @@ from pathlib import Path
 
 from rudavesh import measure, places
 
-LOG = "fn pump::turn: proved\nlogic=proved functions=7 axioms=2 target=x\nrt: pump proved (12 s)\n"
+LOG = "fn pump::turn: proved\nlogic=proved functions=7 axioms=2 target=x\n.ci/refused: pump proved (12 s)\n"
 
 
 class Measure(unittest.TestCase):
@@ -22,8 +22,8 @@ class Measure(unittest.TestCase):
             "crates/pump/must-fail/a.edit": "wrong: one\nrefused by: turn\n",
             "crates/pump/must-fail/b.edit": "wrong: two\nrefused by: turn\n\nwrong: three\nrefused by: stop\n",
             "target/log/pump.out": LOG,
-            "target/must-fail/pump/a.out": "rt: must-fail pump/a: refused, as it must be (first at src/lib.rt:3:1; 10 s)\n",
-            "target/must-fail/pump/b.out": "rt: must-fail pump/b: refused, as it must be (5 s)\n",
+            "target/must-fail/pump/a.out": "logic=not-proved\n.ci/refused: pump/a.out: refused, as it must be (10 s)\n",
+            "target/must-fail/pump/b.out": "logic=not-proved\n.ci/refused: pump/b.out: refused, as it must be (5 s)\n",
         }.items():
             file = self.root / path
             file.parent.mkdir(parents=True, exist_ok=True)
@@ -36,7 +36,7 @@ class Measure(unittest.TestCase):
         self.assertEqual(measure.row(self.root, "pump"), "| pump | 12 s | 8 s | 3 | 2 | - | 7 | 2 | 3 |")
 
     def test_a_crate_that_was_not_checked(self) -> None:
-        (self.root / "target/log/pump.out").write_text("rt: pump proved (unchanged since it was last proved)\n")
+        (self.root / "target/log/pump.out").write_text(".ci/refused: pump not proved (3 s)\n")
         (self.root / "target/must-fail/pump/a.out").unlink()
         (self.root / "target/must-fail/pump/b.out").unlink()
         self.assertEqual(measure.row(self.root, "pump"), "| pump | - | - | 3 | 2 | - | - | - | 3 |")

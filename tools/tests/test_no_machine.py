@@ -7,9 +7,9 @@ from pathlib import Path
 
 from rudavesh.places import ROOT
 
-FOLDERS = re.compile(rb"/(?:home|root|tmp|work|opt|srv|mnt|Users)/\w[^\n]{0,60}")
+FOLDERS = re.compile(rb"(?<![\w-])/(?:home|root|tmp|work|opt|srv|mnt|Users)/\w[^\n]{0,60}")
 # What is built there is not looked into: a gate may be building at this moment.
-MADE = {"target", ".git", "__pycache__"}
+MADE = {"target", "out", ".git", "__pycache__"}
 
 
 def files():
