@@ -39,11 +39,18 @@ Grown a f g = streams.Grown size_of ReadOff (most_of a) a f g
 as_before : (a : List ℕ) (f g : Front Call) → shiftline-grown.Grown a f g → Grown a (as_shiftline f) (as_shiftline g)
 as_before a end g (no_byte none) = no_byte none
 as_before a unknown unknown no_record = no_record
+as_before a unknown end below = elim below [ ]
+as_before a unknown short below = elim below [ ]
+as_before a unknown (whole _) below = elim below [ ]
 as_before a short g (a_part few) = a_part (omega arith)
 as_before a (whole _) (whole _) (a_record call off all) = a_record (as_in_shiftline call) off all
+as_before a (whole _) end below = elim below [ ]
+as_before a (whole _) unknown below = elim below [ ]
+as_before a (whole _) short below = elim below [ ]
 
 module _ (a b : List ℕ) where
-  numbered_grown : (few : Bool) → ltb (length a) (numbered_size (byte 1 a)) ≡ few → Grown a (numbered_front a) (numbered_front (a ++ b))
+  numbered_grown : (few : Bool) → ltb (length a) (numbered_size (byte 1 a)) ≡ few
+      → Grown a (numbered_front a) (numbered_front (a ++ b))
   numbered_grown true e = rw e (a_part (omega (arith, ltb-true (length a) (numbered_size (byte 1 a)) e)))
   numbered_grown false e =
       let all : numbered_size (byte 1 a) ≤ length a = ltb-false (length a) (numbered_size (byte 1 a)) e in

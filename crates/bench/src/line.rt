@@ -37,6 +37,7 @@ fn signed_field(page: Page, number: i16) -> Page
 }
 
 // The letter that ends a line.
+#[tactic(auto, unfolding(crate::specs::Pages::more))]
 fn last_letter(page: Page, letter: u8) -> Page
     ensures { result ≡ more page ((letter ∷ []) ++ text "\n") }
 {
@@ -82,6 +83,7 @@ pub(crate) fn motor_line(answer: Answer, lent: &mut [u8]) -> usize
     put(lent, 0, &bytes[..size])
 }
 
+#[tactic(auto, unfolding(crate::specs::Line::refusal_line))]
 pub(crate) fn refusal_line(lent: &mut [u8]) -> usize
     ensures next { result ≡ behind 0 refusal_line lent.old }
     ensures lent { lent.new ≡ written 0 refusal_line lent.old }

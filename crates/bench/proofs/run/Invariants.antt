@@ -1,0 +1,12 @@
+-- `run` keeps the whole answer in sight: the lines written so far, and then the run over what is left, are the run over everything.
+use Rattle.std.proofs.Common.{◌-◌, length}
+use Rattle.streams.proofs.LoopOfRun.{Ongoing}
+use Rattle.bench.specs.Benchline.{benchline}
+use Rattle.bench.proofs.run.Given as goal
+
+abbrev pub invariant-loop-ran : goal.invariant-loop-ran
+invariant-loop-ran l =
+    Ongoing benchline l.input l.closed l.initial.output l.initial.ran.drive l.output l.ran.taken l.ran.written l.ran.drive
+
+abbrev pub decreases-loop-ran : goal.decreases-loop-ran
+decreases-loop-ran l = length l.input - l.ran.taken
