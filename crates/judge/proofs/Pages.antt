@@ -6,10 +6,10 @@ use native.Mathlib.Omega.{arith}
 use mathlib.Core.Path.{◌≡◌, refl, ap, sym, ◌∙◌}
 use mathlib.Core.Bool.{Bool}
 use mathlib.Core.List.{List, [], ◌∷◌, ◌++◌, map}
-use lib.Dec.{eqb, ltb}
+use lib.Dec.{eqb}
 use lib.ListN.{length, get_or, take, drop, length-append, length-take, length-replicate}
 use lib.Seq.{take_at}
-use Rattle.bytes.specs.Bytes.{index_of, slice}
+use Rattle.judge.specs.Bytes.{index_of, slice}
 use Rattle.text.specs.Put.{behind, written}
 use Rattle.text.specs.Decimal.{column}
 use Rattle.text.proofs.Chains.{length-written, behind_behind, written_written, behind_front, written_front}

@@ -4,7 +4,6 @@ use mathlib.Core.Path.{◌≡◌}
 use mathlib.Core.Bool.{Bool, true, false}
 use mathlib.Core.List.{List, [], ◌++◌}
 use borrow.Author.Tests.{ne_eqb}
-use Rattle.text.specs.Text.{text}
 use Rattle.onlooker.specs.declared.past.Rules.{Rules}
 use Rattle.judge.specs.NextLine.{line_of}
 use Rattle.judge.specs.Judged.{missing, left_over, unreadable, refused}

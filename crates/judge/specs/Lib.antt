@@ -1,3 +1,4 @@
+pub mod Bytes
 pub mod NextLine
 pub mod Judged
 pub mod Hearing

@@ -1,7 +1,7 @@
 -- The line at the front of some bytes.
 use Rattle.std.specs.Prelude.{ℕ, suc, min, List, ltb, length, take}
 use Prim.Native.Char.{code}
-use Rattle.bytes.specs.Bytes.{index_of}
+use Rattle.judge.specs.Bytes.{index_of}
 use Rattle.judge.specs.declared.fronts.Next.{Next}
 
 -- a line ends with its line feed; without one, all bytes are a part of it

@@ -48,6 +48,7 @@ fn kept(rules: Rules) -> bool
 }
 
 // A line as an earlier board prints it; zeros take the place of what it does not have.
+#[tactic(auto, unfolding(crate::specs::Judged::shortened))]
 fn shortened(mut line: [u8; LINE_LENGTH]) -> [u8; LINE_LENGTH]
     ensures { result ≡ shortened line }
 {
@@ -56,6 +57,7 @@ fn shortened(mut line: [u8; LINE_LENGTH]) -> [u8; LINE_LENGTH]
 }
 
 // The line that the supervisor's answer has, in the form of a line of so many bytes.
+#[tactic(auto, unfolding(crate::specs::Judged::line_for))]
 fn line_for(answer: Answer, size: usize) -> [u8; LINE_LENGTH]
     ensures { result ≡ line_for size answer }
 {
@@ -68,6 +70,7 @@ fn line_for(answer: Answer, size: usize) -> [u8; LINE_LENGTH]
 }
 
 // The board's line, as far as a line is long.
+#[tactic(auto, unfolding(crate::specs::Judged::line_kept))]
 fn line_kept(line: &[u8]) -> [u8; LINE_LENGTH]
     ensures { result ≡ line_kept line.now }
 {
@@ -89,6 +92,7 @@ fn differs_now(
 }
 
 // It is the first entry that breaks the demand.
+#[tactic(auto, unfolding(crate::specs::Judged::breaks_now))]
 fn breaks_now(before: u64, good: bool, rules: Rules) -> bool
     ensures { result ≡ breaks_now before good rules }
 {
@@ -166,6 +170,7 @@ fn wanted(found: Found, closed: bool) -> u8
 }
 
 // What was found there is heard with the board's line.
+#[tactic(auto, unfolding(crate::specs::Run::judged_by))]
 fn judged(judge: Judge, input: &[u8], at: usize, found: Found, line: &[u8]) -> Ran
     requires { found ≡ read_as (front (drop at input.now)) }
     ensures { result ≡ judged_by judge line.now (front (drop at input.now)) }
@@ -204,6 +209,7 @@ fn follow(judge: Judge, input: &[u8], at: usize, closed: bool, line: &[u8]) -> R
 }
 
 // The same with the line at a place of the lines.
+#[tactic(auto, unfolding(crate::specs::Run::turn))]
 fn turn(
     judge: Judge,
     input: &[u8],
@@ -225,6 +231,7 @@ fn turn(
 }
 
 // One turn more.
+#[tactic(auto, unfolding(crate::specs::Run::onward))]
 pub(crate) fn onward(ran: Ran, input: &[u8], closed: bool, lines: &[u8], finished: bool) -> Ran
     requires { (ran.taken ≤ length input.now) × (ran.lines ≤ length lines.now) }
     ensures result { result ≡ onward closed input.now finished lines.now ran }

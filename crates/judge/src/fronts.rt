@@ -2,7 +2,7 @@
 ghost use Rattle.std.specs.Prelude.{◌≡◌, drop};
 ghost use Rattle.judge.specs.NextLine.{next_line};
 
-use bytes::scan::find;
+use crate::scan::find;
 
 // How many bytes the line has, and whether its line feed is among them.
 #[derive(Clone, Copy)]

@@ -1,9 +1,11 @@
 // The judge of a board: he holds the lines that it printed against what the supervisor answers to the same records, and against demand 3.
 #![tactic(auto)]
+
 mod entries;
 mod fronts;
 mod hearing;
 mod picks;
+mod scan;
 pub mod sentences;
 mod words;
 

@@ -7,13 +7,13 @@ ghost use Rattle.judge.specs.Sentences.{placed, sentence, about, counting, diffe
 
 use crate::fronts::next_line;
 use crate::picks::one_more;
+use crate::scan::find;
 use crate::words::{
     CALLS_JUDGED, EXIT_BREAKS, FOUND, GATES_BREAK, LINE_DIFFERS, LINE_LEFT_OVER, LINE_MISSING,
     LINE_UNREADABLE, NO_LINE_DIFFERS, NONE_BREAKS, RECORD_REFUSED, RETRIES_BREAK, SILENCE, WIDTH,
     words,
 };
 use crate::{Judge, LEFT_OVER, MISSING, REFUSED, UNREADABLE};
-use bytes::scan::find;
 use onlooker::past::Rules;
 use report::LINE_LENGTH;
 use text::{put, put_column, put_decimal};
@@ -38,6 +38,7 @@ fn put_placed(lent: &mut [u8], at: usize, number: u64) -> usize
 }
 
 // A line, as far as its line feed.
+#[tactic(auto, unfolding(crate::specs::NextLine::next_line, crate::specs::Pages::more))]
 fn say_line(page: Page, line: [u8; LINE_LENGTH]) -> Page
     ensures { result ≡ more page (line_of line) }
 {
