@@ -7,7 +7,7 @@ use Prim.Native.Nat.{ℕ, ◌+◌, ◌-◌, ◌≤◌}
 use native.Mathlib.Omega.{arith}
 use lib.ListN.{length, drop, length-append, length-drop, drop_of_length-le}
 use lib.Seq.{take_at, drop_at, drop-drop}
-use Rattle.streams.specs.Run.{Program, Outcome, rest, onto, runs, run, output_after}
+use Rattle.streams.specs.Run.{Program, Outcome, onto, runs, run, output_after}
 use Rattle.streams.specs.Stream.{Lawful}
 use Rattle.streams.proofs.Parts.{tail, part, back}
 use Rattle.streams.proofs.FirstRecord.{FirstRecord, first_record}

@@ -1,5 +1,5 @@
 -- `verdict` walks the rows from the first: what the rows from `i` on say is what all of them say.
-use Rattle.std.proofs.Common.{◌≡◌, ℕ, ◌-◌, ◌≤◌}
+use Rattle.std.proofs.Common.{◌≡◌, ◌-◌, ◌≤◌}
 use Rattle.verdicts.specs.Table.{verdict}
 use Rattle.settings.specs.Settings.{all_settings}
 use Rattle.settings.specs.Rules.{setting_rows}

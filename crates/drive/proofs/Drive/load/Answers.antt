@@ -1,5 +1,5 @@
 -- `load` of as many numbers as there are settings is `load_settings`; else the row of the length holds.
-use Rattle.std.proofs.Common.{◌≡◌, Bool, true, false, cond, not, ◌||◌, refl, rules}
+use Rattle.std.proofs.Common.{◌≡◌, Bool, true, false, cond, not, ◌||◌, refl}
 use Rattle.states.specs.States.{is}
 use Rattle.settings.specs.Settings.{meant}
 use Rattle.drive.specs.Calls.{loaded, settle, load}

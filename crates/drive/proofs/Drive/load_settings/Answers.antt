@@ -1,5 +1,4 @@
 -- `load_settings` leaves the state that it was given, where it is refused.
-use Rattle.std.proofs.Common.{rules}
 use Rattle.drive.specs.Calls.{load}
 use Rattle.drive.proofs.Drive.load_settings.Goals as goal
 

@@ -1,7 +1,6 @@
 -- `completed` has filled its array up to `i` with the numbers; what is left of it are threes.
-use Rattle.std.proofs.Common.{◌≡◌, ℕ, ◌-◌, ◌≤◌, true, ◌||◌, eqb, List, length, refl, ap, ◌∙◌, arith, length-set, rules}
+use Rattle.std.proofs.Common.{◌≡◌, length, refl, ap, ◌∙◌, arith, length-set}
 use Rattle.numbers.proofs.Fill.{filled, filled_more}
-use Rattle.settings.specs.Settings.{setting_count, all_settings}
 use Rattle.settings.proofs.Meant.{threes, filled_meant}
 use Rattle.drive.proofs.calls.completed.Goals as goal
 

@@ -1,8 +1,8 @@
 -- `completed` has filled its array up to `i` with the numbers; what is left of it are threes.
-use Rattle.std.proofs.Common.{◌≡◌, ℕ, ◌-◌, ◌≤◌, true, ◌||◌, eqb, List, length, refl, ap, ◌∙◌, arith, length-set, rules}
-use Rattle.numbers.proofs.Fill.{filled, filled_more}
+use Rattle.std.proofs.Common.{◌≡◌, ◌-◌, ◌≤◌, true, ◌||◌, eqb, length}
+use Rattle.numbers.proofs.Fill.{filled}
 use Rattle.settings.specs.Settings.{setting_count, all_settings}
-use Rattle.settings.proofs.Meant.{threes, filled_meant}
+use Rattle.settings.proofs.Meant.{threes}
 use Rattle.drive.proofs.calls.completed.Given as goal
 
 abbrev pub invariant-loop-i : goal.invariant-loop-i

@@ -1,6 +1,6 @@
 -- `kept` has filled its array up to `i` with the first of the settings; at the end it is full.
-use Rattle.std.proofs.Common.{◌≡◌, ℕ, ◌-◌, ◌≤◌, List, length, take, replicate, sym, refl, ◌∙◌, arith, length-set, length-take, rules}
-use Rattle.numbers.proofs.Fill.{filled, filled_more, filled_all, first_at}
+use Rattle.std.proofs.Common.{◌≡◌, ◌-◌, ◌≤◌, length, take, replicate}
+use Rattle.numbers.proofs.Fill.{filled}
 use Rattle.settings.specs.Settings.{setting_count, all_settings}
 use Rattle.drive.proofs.calls.kept.Given as goal
 

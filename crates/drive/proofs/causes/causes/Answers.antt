@@ -1,5 +1,5 @@
 -- `causes` joins the flags in the order of the definition.
-use Rattle.std.proofs.Common.{◌≡◌, ℕ, ap₂, rules}
+use Rattle.std.proofs.Common.{◌≡◌, ℕ, ap₂}
 use Rattle.faults.specs.Word.{◌or◌}
 use Rattle.drive.specs.Causes.{causes}
 use Rattle.drive.proofs.causes.causes.Goals as goal

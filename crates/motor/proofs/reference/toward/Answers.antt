@@ -1,5 +1,5 @@
 -- `toward` makes both sums at 64 bits, where none is lost; what it hands back lies between reference and target, and so fits 32 bits.
-use Rattle.std.proofs.Common.{◌≡◌, ℕ, true, false, ℤ, pos, ◌+ℤ◌, ◌-ℤ◌, arith, to_z, of_z, w16, w32, w64, Fits}
+use Rattle.std.proofs.Common.{◌≡◌, ℕ, true, ℤ, pos, ◌+ℤ◌, ◌-ℤ◌, arith, to_z, of_z, w16, w32, w64, Fits}
 use native.Mathlib.Nat.{le-suc}
 use lib.IntN.{neg_ℤ}
 use lib.Signed.{lt_z}

@@ -1,5 +1,4 @@
 -- `cycle` remembers and notes what the history's onlooker does.
-use borrow.Author.Rules.{rules}
 use mathlib.Core.Path.{refl}
 use Rattle.onlooker.proofs.Heard.{cycle_heard}
 use Rattle.onlooker.proofs.Onlooker.cycle.Goals as goal

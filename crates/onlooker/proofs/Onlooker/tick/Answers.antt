@@ -1,5 +1,4 @@
 -- `tick` remembers and notes what the history's onlooker does.
-use borrow.Author.Rules.{rules}
 use mathlib.Core.Path.{refl}
 use Rattle.onlooker.proofs.Heard.{tick_heard}
 use Rattle.onlooker.proofs.Onlooker.tick.Goals as goal

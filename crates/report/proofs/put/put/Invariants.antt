@@ -1,11 +1,8 @@
 -- `put` has copied i bytes at the head of its loop, and a turn copies the next; the byte that ends them stands behind the last.
 use Prim.Native.Nat.{◌≤◌, ◌-◌}
-use native.Mathlib.Omega.{arith}
 use mathlib.Core.Path.{◌≡◌}
-use lib.ListN.{length, take, length-set}
-use lib.Seq.{sets, take_all}
-use borrow.Author.Rules.{rules}
-use Rattle.report.proofs.Runs.{sets_append, one_more}
+use lib.ListN.{length, take}
+use lib.Seq.{sets}
 use Rattle.report.proofs.put.put.Given as goal
 
 abbrev pub invariant-loop-i : goal.invariant-loop-i

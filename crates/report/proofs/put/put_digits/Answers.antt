@@ -1,10 +1,8 @@
 -- `put_digits` stores its digits from the right: with those of `rest` stored in front of them, the ones made are the number's.
-use Prim.Native.Nat.{◌≤◌}
 use native.Mathlib.Nat.{mod-lt}
 use native.Mathlib.Omega.{arith}
 use mathlib.Core.Path.{◌≡◌, refl, ◌∙◌}
-use lib.ListN.{length, length-set}
-use lib.Seq.{sets}
+use lib.ListN.{length-set}
 use borrow.Author.Rules.{rules}
 use Rattle.report.specs.Text.{digits}
 use Rattle.report.proofs.Runs.{sets_append}

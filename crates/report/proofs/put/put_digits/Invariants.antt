@@ -1,14 +1,9 @@
 -- `put_digits` stores its digits from the right: with those of `rest` stored in front of them, the ones made are the number's.
 use Prim.Native.Nat.{◌≤◌}
-use native.Mathlib.Nat.{mod-lt}
-use native.Mathlib.Omega.{arith}
-use mathlib.Core.Path.{◌≡◌, refl, ◌∙◌}
-use lib.ListN.{length, length-set}
+use mathlib.Core.Path.{◌≡◌}
+use lib.ListN.{length}
 use lib.Seq.{sets}
-use borrow.Author.Rules.{rules}
 use Rattle.report.specs.Text.{digits}
-use Rattle.report.proofs.Runs.{sets_append}
-use Rattle.report.proofs.Digits.{length_digits, one_made}
 use Rattle.report.proofs.put.put_digits.Given as goal
 
 abbrev pub invariant-loop-left : goal.invariant-loop-left

@@ -1,5 +1,5 @@
 -- Each arm of `put_name` puts the name of its own state; the last one is that of the only state left up to nine.
-use Rattle.std.proofs.Common.{ℕ, ◌+◌, ◌≤◌, ◌≢◌, ◌≡◌, arith}
+use Rattle.std.proofs.Common.{◌≡◌, arith}
 use Rattle.report.proofs.put.put_name.Goals as goal
 
 pub returns-in-0-clause-lent : goal.returns-in-0-clause-lent

@@ -1,5 +1,5 @@
 -- `fields` puts each field where the one before it ends, so that together they are one run of bytes from the buffer's first.
-use Rattle.std.proofs.Common.{◌≡◌, ◌+◌, ◌≤◌, [], ◌∷◌, refl, length, to_z-of_z, w16, FitsSigned, rules}
+use Rattle.std.proofs.Common.{[], ◌∷◌, refl, to_z-of_z, w16, FitsSigned, rules}
 use Rattle.drive.specs.Answer.{letter}
 use Rattle.report.specs.Text.{digits, signed}
 use Rattle.report.specs.Line.{name, line}
