@@ -7,9 +7,9 @@ An edit has one or more wrong answers, each with its name and with what must ref
     old: ..
     new: ..
 `rt ci` asks only whether the crate is refused, and keeps no log. Here each edit is made in a copy, which `rt check` looks at, and each name
-must be refused by an error of its own, not because something that it rests on is; where code alone is changed nothing else may be. So one
-check tries many wrong answers. A function whose callees wait for proofs of their own may not be looked at: a wrong answer that one log does
-not show is tried once more, alone.
+must be refused by an error of its own, and not because something that it rests on is, or because a proof names what the edit took away;
+where code alone is changed nothing else may be. So one check tries many wrong answers. A function whose callees wait for proofs of their
+own may not be looked at: a wrong answer that one log does not show is tried once more, alone.
 It cannot tell a fact that does not hold from a proof that no longer fits: for that read the logs, target/must-fail/CRATE/EDIT.out, down to
 the notes.
 Exit status: 0 refused as they say; 1 not so, or a write failed; 2 wrong use, or the kit is missing, or a crate is not proved as it stands."""
@@ -33,7 +33,9 @@ LOGS = ROOT / "target" / "must-fail"
 OF_CRATES = ROOT / "target" / "log"
 # No check takes more than this.
 MOST_MEMORY = 3 * 2**30
-ERROR = re.compile(r"(?:\./)?proofs/(\S+)\.antt:\d+:\d+: error: `([^`]*)`: (?!.*\bwas (?:not admitted|rejected)\b)")
+ERROR = re.compile(r"(?:\./)?proofs/(\S+)\.antt:\d+:\d+: error: `([^`]*)`: (.*)")
+# What rests on another, or names what the edit took away.
+NOT_ITS_OWN = re.compile(r"was (?:not admitted|rejected)\b|is not in scope|has no field|has no `[^`]*` that can be named")
 # What rattle's own search left open, or what has no invariant that fits.
 OPEN = re.compile(r"fn (\S+): no proof: expected ")
 ENDED = re.compile(r"^logic=(?:not-)?proved", re.M)
@@ -48,7 +50,7 @@ def refused_in(log: str, crate: str) -> Set[str]:
     found = set()
     for line in log.split("\n"):
         error, left_open = ERROR.match(line), OPEN.match(line)
-        if error:
+        if error and not NOT_ITS_OWN.search(error[3]):
             folder, _, file = error[1].rpartition("/")
             found.add(folder.replace("/", "::") if folder else f"{file}.antt {error[2]}")
         elif left_open:
