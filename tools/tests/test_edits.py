@@ -24,9 +24,10 @@ old: z
 new: w
 """
 
-# as rattle prints them: errors of their own, what only rests on those, and a theorem's error
+# as rattle prints them: errors of their own, what only rests on those or names what is gone, and a theorem's error
 LOG = """./proofs/Drive/cycle/Answers.antt:10:5: error: `returns`: give a proof of that as the last argument
 ./proofs/run/Answers.antt:4:5: error: 2 declarations that depend on `close`, which was rejected, were not checked: returns, stays
+./proofs/stay/Answers.antt:8:54: error: `returns`: record `pump.proofs.stay.Lts.View.In-After-b` has no field `if-a` (nearest: .if-b)
 ./proofs/OneReply.antt:7:2: error: `power-up`: expected type `x`
 ./proofs/Laws.antt:9:5: error: 1 declaration that depends on `power-up`, which was not admitted, was not checked: law
 fn pump::Drive::cycle: not proved
