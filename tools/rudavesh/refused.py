@@ -1,4 +1,4 @@
-"""Whether each wrong answer of the must-fail edits is refused by what its edit says: it prints what differs, and nothing where nothing does.
+"""Whether each wrong answer of the must-fail edits is refused by what its edit says. Prints what differs, and nothing where nothing does.
 
 An edit has one or more wrong answers, each with its name and with what must refuse it: functions, or a theorem of a file of proofs/.
     wrong: cycle_does_nothing
@@ -7,13 +7,15 @@ An edit has one or more wrong answers, each with its name and with what must ref
     old: ..
     new: ..
 `rt ci` asks only whether the crate is refused, and keeps no log. Here each edit is made in a copy, which `rt check` looks at, and each name
-must be refused by an error of its own, not because something that it rests on is; where code alone is changed nothing else may be. So one
-check tries many wrong answers. A function whose callees wait for proofs of their own may not be looked at: a wrong answer that one log does
-not show is tried once more, alone.
+must be refused by an error of its own, and not because something that it rests on is, or because a proof names what the edit took away;
+where code alone is changed nothing else may be. So one check tries many wrong answers. A function whose callees wait for proofs of their
+own may not be looked at: a wrong answer that one log does not show is tried once more, alone.
+What passed is kept on this machine (~/.cache/rudavesh), by a hash of all that it was told from, and is not tried again; --anew tries all.
 It cannot tell a fact that does not hold from a proof that no longer fits: for that read the logs, target/must-fail/CRATE/EDIT.out, down to
 the notes.
-Exit status: 0 refused as they say; 1 not so, or a write failed; 2 wrong use, or the kit is missing, or a crate is not proved as it stands."""
+Exit status: 0 refused as they say; 1 not so, or a write failed; 2 wrong use, or the kit is missing, or a crate is not proved."""
 
+import hashlib
 import os
 import re
 import shutil
@@ -33,7 +35,9 @@ LOGS = ROOT / "target" / "must-fail"
 OF_CRATES = ROOT / "target" / "log"
 # No check takes more than this.
 MOST_MEMORY = 3 * 2**30
-ERROR = re.compile(r"(?:\./)?proofs/(\S+)\.antt:\d+:\d+: error: `([^`]*)`: (?!.*\bwas (?:not admitted|rejected)\b)")
+ERROR = re.compile(r"(?:\./)?proofs/(\S+)\.antt:\d+:\d+: error: `([^`]*)`: (.*)")
+# What rests on another, or names what the edit took away.
+NOT_ITS_OWN = re.compile(r"was (?:not admitted|rejected)\b|is not in scope|has no field|has no `[^`]*` that can be named")
 # What rattle's own search left open, or what has no invariant that fits.
 OPEN = re.compile(r"fn (\S+): no proof: expected ")
 ENDED = re.compile(r"^logic=(?:not-)?proved", re.M)
@@ -48,7 +52,7 @@ def refused_in(log: str, crate: str) -> Set[str]:
     found = set()
     for line in log.split("\n"):
         error, left_open = ERROR.match(line), OPEN.match(line)
-        if error:
+        if error and not NOT_ITS_OWN.search(error[3]):
             folder, _, file = error[1].rpartition("/")
             found.add(folder.replace("/", "::") if folder else f"{file}.antt {error[2]}")
         elif left_open:
@@ -66,6 +70,35 @@ def lay_out(crate: str, place: Path) -> Path:
                 shutil.copytree(crate_folder(name) / part, crate_folder(name, place) / part)
     (place / "crates.txt").write_text("".join(f"{name}: {' '.join(crates[name])}\n" for name in known))
     return crate_folder(crate, place)
+
+
+class Kept:
+    """The edits that were refused as they say, on this machine."""
+
+    def __init__(self) -> None:
+        home = os.environ.get("XDG_CACHE_HOME") or os.path.join(os.environ.get("HOME", ""), ".cache")
+        self.folder = Path(home) / "rudavesh" / "refused"
+        done = subprocess.run(["rt", "version"], stdout=subprocess.PIPE, stderr=subprocess.DEVNULL, check=False)
+        self.kit = done.stdout + b"".join(Path(__file__).with_name(name).read_bytes() for name in ("refused.py", "edits.py"))
+
+    def of_crate(self, crate: str) -> bytes:
+        """A hash of what a check of a crate reads of it."""
+        files = [file for part in PARTS for file in sorted((crate_folder(crate) / part).glob("**/*")) if file.is_file()]
+        told = (f"{file.relative_to(ROOT)} {hashlib.sha256(file.read_bytes()).hexdigest()}\n" for file in files)
+        return "".join(told).encode()
+
+    def file(self, crate: str, edit: Path) -> Path:
+        below = crates_below(crate, ROOT)
+        lines = [" ".join([name, *crates_of(ROOT)[name]]) for name in below]
+        parts = [self.kit, *map(self.of_crate, below), "\n".join(lines).encode(), edit.read_bytes()]
+        return self.folder / hashlib.sha256(b"".join(hashlib.sha256(part).digest() for part in parts)).hexdigest()
+
+    def keep(self, file: Path) -> None:
+        try:
+            self.folder.mkdir(parents=True, exist_ok=True)
+            file.touch()
+        except OSError:
+            pass  # it is tried again
 
 
 def change(folder: Path, wrong: List[Answer]) -> None:
@@ -131,11 +164,15 @@ class Tried(NamedTuple):
     said: "Future[List[str]]"
 
 
-def tried(crate: str, edit: Path) -> List[str]:
+def tried(crate: str, edit: Path, kept: Kept) -> List[str]:
+    file = kept.file(crate, edit)
     try:
-        return list(differs(crate, edit.stem, answers(edit)))
+        said = list(differs(crate, edit.stem, answers(edit)))
     except Unread as reason:
-        return [f"{reason}."]
+        said = [f"{reason}."]
+    if not said and file == kept.file(crate, edit):
+        kept.keep(file)
+    return said
 
 
 def workers() -> int:
@@ -146,8 +183,10 @@ def workers() -> int:
 
 def main() -> int:
     parser = parser_of("refused", __doc__, folder=".ci/")
+    parser.add_argument("--anew", action="store_true", help="try what passed, too")
     parser.add_argument("crate", nargs="*", metavar="CRATE", help="crates of crates.txt; without one, all")
-    chosen = parser.parse_args().crate
+    given = parser.parse_args()
+    chosen = given.crate
     for crate in chosen:
         if crate not in crates_of(ROOT):
             parser.error(f"crates.txt lists no {crate}")
@@ -155,14 +194,16 @@ def main() -> int:
         print("The Rattle kit is missing: its command rt is not on the PATH.", file=sys.stderr)
         return 2
     found: List[Tried] = []
+    kept = Kept()
     with ThreadPoolExecutor(workers()) as pool:
         for crate in chosen or crates_of(ROOT):
             of_crate = [edit for edit in edits(ROOT) if edit.parent.parent.name == crate]
+            of_crate = [edit for edit in of_crate if given.anew or not kept.file(crate, edit).exists()]
             if of_crate and not is_proved(crate):
                 print(f"{crate} is not proved as it stands: target/log/{crate}.out says why.", file=sys.stderr)
                 pool.shutdown(cancel_futures=True)
                 return 2
-            found += [Tried(crate, edit.stem, pool.submit(tried, crate, edit)) for edit in of_crate]
+            found += [Tried(crate, edit.stem, pool.submit(tried, crate, edit, kept)) for edit in of_crate]
     status = 0
     for one in found:
         if one.said.result():

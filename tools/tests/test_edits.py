@@ -24,9 +24,10 @@ old: z
 new: w
 """
 
-# as rattle prints them: errors of their own, what only rests on those, and a theorem's error
+# as rattle prints them: errors of their own, what only rests on those or names what is gone, and a theorem's error
 LOG = """./proofs/Drive/cycle/Answers.antt:10:5: error: `returns`: give a proof of that as the last argument
 ./proofs/run/Answers.antt:4:5: error: 2 declarations that depend on `close`, which was rejected, were not checked: returns, stays
+./proofs/stay/Answers.antt:8:54: error: `returns`: record `pump.proofs.stay.Lts.View.In-After-b` has no field `if-a` (nearest: .if-b)
 ./proofs/OneReply.antt:7:2: error: `power-up`: expected type `x`
 ./proofs/Laws.antt:9:5: error: 1 declaration that depends on `power-up`, which was not admitted, was not checked: law
 fn pump::Drive::cycle: not proved
@@ -40,6 +41,8 @@ logic=not-proved
 """
 # proves a crate as it stands, and refuses one with an edit, or with its second wrong answer alone, by what lies beside it
 RT = """#!/bin/sh
+[ "$1" = check ] || exit 0
+echo "$PWD" >>"$LOGS/asked"
 if grep -rq y src specs; then cat "$LOGS/log"; exit 1; fi
 if grep -rq w src specs; then cat "$LOGS/alone"; exit 1; fi
 echo "logic=proved functions=1"
@@ -85,7 +88,8 @@ class Edits(unittest.TestCase):
 class Refused(unittest.TestCase):
     """A tree with one edit, and a kit that says of it what a log says."""
 
-    def asked(self, edit: str, log: str, alone: str = "logic=not-proved\n") -> "subprocess.CompletedProcess[str]":
+    def asked(self, edit: str, log: str, alone: str = "logic=not-proved\n", first: int = 0) -> "subprocess.CompletedProcess[str]":
+        """What it says, after it was asked so many times before; and in `checks` how many checks it made."""
         with tempfile.TemporaryDirectory() as folder:
             root, kit = Path(folder) / "tree", Path(folder) / "kit"
             for file, text in {
@@ -103,8 +107,12 @@ class Refused(unittest.TestCase):
             shutil.copytree(places.TOOLS, root / "tools", ignore=shutil.ignore_patterns("tests", "__pycache__"))
             (root / ".ci").mkdir()
             shutil.copy(places.ROOT / ".ci" / "refused", root / ".ci")
-            there = {**os.environ, "PATH": f"{kit}:{os.environ['PATH']}", "LOGS": str(kit)}
-            return subprocess.run([root / ".ci" / "refused"], capture_output=True, text=True, check=False, env=there)
+            there = {**os.environ, "PATH": f"{kit}:{os.environ['PATH']}", "LOGS": str(kit), "XDG_CACHE_HOME": str(kit / "kept")}
+            for _ in range(first + 1):
+                (kit / "asked").write_text("")
+                run = subprocess.run([root / ".ci" / "refused"], capture_output=True, text=True, check=False, env=there)
+            self.checks = len((kit / "asked").read_text().splitlines())
+            return run
 
     def test_refused_by_what_it_says(self) -> None:
         run = self.asked(EDIT, LOG)
@@ -125,6 +133,11 @@ class Refused(unittest.TestCase):
         lines = LOG.replace("`power-up`: expected", "`load`: expected").replace("./proofs/OneReply.antt", "./src/lib.rt")
         self.assertEqual(self.asked(EDIT, lines).returncode, 1)
         self.assertEqual(self.asked(EDIT, lines, LOG).returncode, 0)
+
+    def test_what_passed_is_not_tried_again(self) -> None:
+        for first, log, checks in ((0, LOG, 2), (1, LOG, 0), (1, LOG.replace("`power-up`", "`load`"), 3)):
+            self.asked(EDIT, log, first=first)
+            self.assertEqual(self.checks, checks)
 
     def test_no_log(self) -> None:
         run = self.asked(EDIT.replace("wrong: a", "wrong: c"), "")
