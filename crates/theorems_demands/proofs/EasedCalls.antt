@@ -24,7 +24,7 @@ use Rattle.drive.specs.declared.Drive.{Drive}
 use Rattle.drive.specs.declared.answer.Judged.TheVariants.{Nothing}
 use Rattle.drive.specs.declared.answer.Reply.{Reply}
 use Rattle.drive.proofs.Settles.{refusal}
-use Rattle.theorems_history.specs.Onlooker.{Asked, tick, neither, heard, is_tick}
+use Rattle.theorems_history.specs.Onlooker.{Asked, neither, heard, is_tick}
 use Rattle.theorems_reached.proofs.Loads.{accepted_state}
 use Rattle.onlooker.specs.Words.{words, asked}
 use Rattle.theorems_demands.specs.Stalled.{slack, slackened}

@@ -24,7 +24,7 @@ use Rattle.theorems_history.specs.Log.{state_after, log}
 use Rattle.theorems_history.specs.Onlooker.{tick, memory_of}
 use Rattle.drive.specs.Answer.{answer, answer_telling}
 use Rattle.drive.specs.Refusals.{tick_rows}
-use Rattle.drive.specs.Calls.{loaded, judged_by, cycled}
+use Rattle.drive.specs.Calls.{judged_by, cycled}
 use Rattle.drive.specs.Blocks.{marked}
 use Rattle.drive.specs.Ticks.{watch, standing, raised, armed_by, nth, grounds, moved, ticked}
 use Rattle.drive.specs.Ticks as TickCalls

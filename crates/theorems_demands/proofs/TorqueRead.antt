@@ -9,7 +9,7 @@ use lib.IntN.{nat_abs}
 use lib.Ieee.Bits.{is_false}
 use mir.Facts.{eqb_yes, leb_yes, ltb_yes}
 use Rattle.numbers.proofs.Tests.{all_three}
-use Rattle.faults.specs.Word.{bit, ◌or◌}
+use Rattle.faults.specs.Word.{bit}
 use Rattle.states.specs.States.{is}
 use Rattle.settings.specs.Settings.{meant, FaultEnable}
 use Rattle.fields.specs.declared.Tick.{Tick}

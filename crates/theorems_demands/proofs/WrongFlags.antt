@@ -14,7 +14,7 @@ use Rattle.images.specs.Image.{fifteen, Stored, empty, filled, image_of}
 use Rattle.drive.specs.Answer.{reply as replied}
 use Rattle.drive.specs.Calls.{becomes}
 use Rattle.drive.specs.Blocks.{marked}
-use Rattle.drive.specs.AnyCall.{Call, loads, cycles, ticks, block_loads, reply}
+use Rattle.drive.specs.AnyCall.{Call, loads, block_loads, reply}
 use Rattle.drive.specs.declared.Drive.{Drive}
 use Rattle.drive.specs.declared.answer.Answer.{Answer}
 use Rattle.drive.specs.declared.answer.Reply.{Reply}

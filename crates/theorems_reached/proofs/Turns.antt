@@ -30,7 +30,7 @@ use Rattle.settings.specs.Settings.{setting_count, all_settings, meant, HallAngl
 use Rattle.settings.proofs.Meant.{meant_of_24, meant_of_others, length-meant}
 use Rattle.states.specs.States.{is}
 use Rattle.verdicts.specs.Table.{verdict}
-use Rattle.drive.specs.Answer.{answer, answer_telling, reply_telling}
+use Rattle.drive.specs.Answer.{answer_telling, reply_telling}
 use Rattle.drive.specs.Refusals.{highest_pattern, load_rows}
 use Rattle.drive.specs.Calls.{chosen, loaded, load, judged_by, cycled, cycle}
 use Rattle.drive.specs.declared.Drive.{Drive}

@@ -1,7 +1,6 @@
 -- Each call leaves what the reader of the log keeps true of the drive, and so each answer has the letter and the position that he tells.
 use Prim.Native.Nat.{ℕ, ◌≤◌}
 use Prim.Native.Char.{code}
-use native.Mathlib.Omega.{arith}
 use mathlib.Core.Path.{◌≡◌, refl, sym, ap, subst, ◌∙◌}
 use mathlib.Core.Bool.{Bool, true, false, not, ◌&&◌, ◌||◌, cond}
 use mathlib.Core.List.{List, [], ◌∷◌}
@@ -12,7 +11,7 @@ use mir.Syntax.{w16}
 use mir.Val.{to_z}
 use mir.Facts.{ltb_no}
 use borrow.Author.Tests.{eq-eqb}
-use Rattle.hall.specs.Layout.{Layout, three, two, layout, among}
+use Rattle.hall.specs.Layout.{three, two, layout, among}
 use Rattle.hall.specs.Fate.{fate}
 use Rattle.hall.specs.Sample.{sampled, after, dead_sample, stray_sample}
 use Rattle.hall.specs.declared.Hall.{Hall}
@@ -27,21 +26,17 @@ use Rattle.moves.specs.declared.Move.{Move}
 use Rattle.moves.specs.declared.Move.TheVariants.{Stay, Enter, Measure, Clear, Retry}
 use Rattle.fields.specs.declared.Cycle.{Cycle}
 use Rattle.fields.specs.declared.Tick.{Tick}
-use Rattle.verdicts.specs.Table.{verdict}
 use Rattle.verdicts.proofs.Passed.{passed}
 use Rattle.drive.specs.Answer.{letter_of, letter, answer_telling, reply_telling, reply as shown}
 use Rattle.drive.specs.Refusals.{highest_pattern, cycle_rows}
 use Rattle.drive.specs.Calls.{chosen, judged_by, cycled, loaded}
 use Rattle.drive.specs.Ticks.{watch, raised, armed_by, nth, moved, ticked, chosen as chosen-move}
 use Rattle.drive.specs.Blocks.{block_numbers, marked}
-use Rattle.drive.specs.AnyCall.{Call, loads, cycles, ticks, block_loads, reply}
+use Rattle.drive.specs.AnyCall.{Call, cycles, reply}
 use Rattle.drive.specs.declared.Drive.{Drive}
-use Rattle.drive.specs.declared.answer.Answer.{Answer}
 use Rattle.drive.specs.declared.answer.Reply.{Reply}
 use Rattle.drive.proofs.EachCall.{each_call}
-use Rattle.theorems_history.specs.Log.{Entry, state_after, log}
-use Rattle.theorems_history.specs.Onlooker.{memory_of}
-use Rattle.onlooker.specs.Words.{words}
+use Rattle.theorems_history.specs.Log.{state_after, log}
 use Rattle.theorems_reached.specs.Machine.{machine}
 use Rattle.theorems_reached.specs.Reached.{Reached}
 use Rattle.theorems_reached.proofs.Hall.{dead_pattern, outside_the_order}
@@ -49,11 +44,11 @@ use Rattle.theorems_reached.proofs.Keeps.{every_reached}
 use Rattle.lines.proofs.Places.{end_of_line}
 use Rattle.theorems_demands.specs.FlagTwelve.{is_load}
 use Rattle.theorems_demands.specs.Stalled.{Log, numbers_of}
-use Rattle.theorems_demands.proofs.Remembers.{dead_alike, Remembers}
+use Rattle.theorems_demands.proofs.Remembers.{dead_alike}
 use Rattle.theorems_demands.proofs.Lawful.{remembered}
 use Rattle.theorems_samples.specs.Letters.{layout_of, letter_against, letter_for, Samples, no_sample}
-use Rattle.theorems_samples.specs.Letters.{with_call, samples_of, accepted, letter_of_call, shown_position}
-use Rattle.theorems_samples.specs.Letters.{position_of_call, Told, SampleIsTold, NumberSixTellsNothing}
+use Rattle.theorems_samples.specs.Letters.{with_call, samples_of, letter_of_call, shown_position}
+use Rattle.theorems_samples.specs.Letters.{position_of_call, SampleIsTold, NumberSixTellsNothing}
 use Rattle.theorems_samples.proofs.Fates.{letter_in, Follows, letter_told, samples_follow, position_told, steps_told}
 
 -- the layout that he takes from the loaded numbers is the drive's

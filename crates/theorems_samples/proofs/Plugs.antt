@@ -4,24 +4,20 @@ use Prim.Native.Char.{code}
 use native.Mathlib.Omega.{arith}
 use mathlib.Core.Path.{◌≡◌, refl, sym, ◌∙◌}
 use mathlib.Core.Bool.{Bool, true, false, not, ◌&&◌, ◌||◌, cond}
-use mathlib.Core.List.{List, [], ◌∷◌}
-use lib.Dec.{T, eqb, leb}
+use mathlib.Core.List.{[], ◌∷◌}
+use lib.Dec.{eqb, leb}
 use lib.ListN.{length}
 use mir.Facts.{leb_yes}
 use borrow.Author.Tests.{eqb-true, eq-eqb, ne_eqb, leb-false}
 use Rattle.numbers.proofs.Tests.{by_test}
-use Rattle.numbers.specs.Count.{up}
 use Rattle.faults.specs.Word.{bit}
-use Rattle.theorems_history.specs.Log.{Entry}
 use Rattle.drive.specs.Answer.{letter}
-use Rattle.drive.specs.AnyCall.{Call}
-use Rattle.drive.specs.declared.answer.Answer.{Answer}
 use Rattle.onlooker.specs.Past.{most}
 use Rattle.onlooker.specs.Plug.{counted, plug_after}
 use Rattle.theorems_demands.specs.FlagTwelve.{loads_now}
 use Rattle.theorems_demands.specs.Stalled.{Log}
-use Rattle.theorems_samples.specs.Plugs.{pattern_of, plug_of, since_load, says, count, bad_row, shines, lit_by, Sixteen}
-use Rattle.theorems_samples.specs.Plugs.{PlugTold, PlugIsTold}
+use Rattle.theorems_samples.specs.Plugs.{plug_of, since_load, says, count, bad_row, lit_by, Sixteen}
+use Rattle.theorems_samples.specs.Plugs.{PlugIsTold}
 
 -- no count is more than there are answers
 count_small : (wanted : ℕ) (log : Log) → count wanted (since_load log) ≤ length log

@@ -1,7 +1,7 @@
 -- What `why` counts for whoever looks for a loose plug, of any log: the dead and stray letters since the last accepted load, those in a row
 -- up to the newest sample, and the pattern that lit bit 15. The code hears one call after the other (`onlooker` Plug.antt `plug_after`);
 -- here each number is told of the log as a whole.
-use Rattle.std.specs.Prelude.{ℕ, suc, ◌≤◌, ◌<◌, ◌^◌, ◌≡◌, Bool, false, not, ◌&&◌, ◌||◌, cond, List, [], ◌∷◌, eqb, length}
+use Rattle.std.specs.Prelude.{ℕ, suc, ◌≤◌, ◌<◌, ◌^◌, ◌≡◌, Bool, false, not, ◌&&◌, ◌||◌, cond, [], ◌∷◌, eqb, length}
 use Prim.Native.Char.{code}
 use Rattle.faults.specs.Word.{bit}
 use Rattle.theorems_history.specs.Log.{Entry}

@@ -1,9 +1,9 @@
 -- A turn of the loop is one step, and what it comes to is what the definition's run says of it: the last turn's answer is the run's.
-use Rattle.std.proofs.Common.{◌≡◌, ℕ, ◌+◌, ◌≤◌, Bool, ap, arith}
+use Rattle.std.proofs.Common.{◌≡◌, ℕ, Bool, ap, arith}
 use Rattle.drive.specs.declared.Drive.{Drive}
 use Rattle.streams.specs.Run.{Outcome}
-use Rattle.streams.proofs.LoopOfRun.{Told, at_start, stepped}
-use Rattle.records.specs.Run.{shiftline, ran_of}
+use Rattle.streams.proofs.LoopOfRun.{Told, stepped}
+use Rattle.records.specs.Run.{ran_of}
 use Rattle.records.specs.declared.Ran.{Ran}
 use Rattle.records.proofs.Laws.{lawful}
 use Rattle.records.proofs.run.Goals as goal

@@ -6,7 +6,6 @@ use mathlib.Core.Bool.{Bool, true, false, ◌&&◌}
 use mathlib.Core.List.{List}
 use lib.Dec.{T, leb}
 use lib.ListN.{length, drop, length-drop}
-use borrow.Author.Rules.{rules}
 use borrow.Author.Tests.{lt-leb, leb-true}
 use Rattle.records.specs.Decoded.{load_size, counts}
 use Rattle.streams.proofs.Parts.{tail}

@@ -1,5 +1,5 @@
 -- `answering` writes the line of an answer that the line call accepts, and a line has one length.
-use Rattle.std.proofs.Common.{refl, ◌∙◌}
+use Rattle.std.proofs.Common.{◌∙◌}
 use Rattle.report.proofs.Fields.{length-line}
 use Rattle.records.proofs.answers.answering.Goals as goal
 

@@ -1,6 +1,5 @@
 -- `loaded` makes the load of the settings that the numbers mean, which is the load of the numbers.
 use lib.ListN.{drop}
-use borrow.Author.Rules.{rules}
 use Rattle.drive.proofs.Loads.{same_load}
 use Rattle.streams.proofs.Parts.{tail}
 use Rattle.records.specs.Decoded.{settings_of}

@@ -1,6 +1,5 @@
 -- `refusing` shows the state as it is under number 6, which the line call accepts.
 use native.Mathlib.Omega.{arith}
-use borrow.Author.Rules.{rules}
 use Rattle.drive.specs.declared.answer.Judged.TheVariants.{Nothing}
 use Rattle.records.proofs.Printed.{answer_printed}
 use Rattle.records.proofs.answers.refusing.Goals as goal

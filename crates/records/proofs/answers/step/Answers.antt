@@ -1,12 +1,12 @@
 -- `step` does what stands at the front: each arm meets the case of the definition that the reader's answer means.
-use Rattle.std.proofs.Common.{◌≡◌, ℕ, ◌≤◌, Bool, true, false, cond, List, length, drop, length-drop, refl, ap, ◌∙◌, arith}
+use Rattle.std.proofs.Common.{◌≡◌, ℕ, ◌≤◌, Bool, false, cond, List, length, drop, length-drop, refl, ap, ◌∙◌, arith}
 use Rattle.drive.specs.AnyCall.{Call, loads, cycles, ticks, reply}
 use Rattle.drive.specs.declared.Drive.{Drive}
 use Rattle.report.specs.Line.{line}
 use Rattle.report.specs.Refusals.{line_length}
 use Rattle.streams.specs.Run.{Front, whole, Outcome, rest, refused, lined, follow, runs}
 use Rattle.streams.proofs.ByFront.{at_tight, one_front, one_whole}
-use Rattle.records.specs.Decoded.{load_size, counts, settings_of}
+use Rattle.records.specs.Decoded.{settings_of}
 use Rattle.records.specs.Front.{size_of, front}
 use Rattle.records.specs.Run.{shiftline}
 use Rattle.records.specs.declared.Found.TheVariants.{End, Unknown, Short, Load, Cycle, Tick}

@@ -1,5 +1,4 @@
 -- `cycle_of` reads each field at the place that the definition names.
-use borrow.Author.Rules.{rules}
 use Rattle.records.specs.Decoded.{cycle_of}
 use Rattle.records.proofs.decoded.cycle_of.Goals as goal
 

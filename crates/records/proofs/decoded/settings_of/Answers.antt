@@ -2,15 +2,14 @@
 use mathlib.Core.Path.{◌≡◌, refl, ap, ◌∙◌}
 use mathlib.Core.Bool.{true}
 use mathlib.Core.List.{List}
-use Prim.Native.Nat.{ℕ, ◌+◌, ◌-◌, ◌*◌, ◌≤◌, ◌<◌}
+use Prim.Native.Nat.{ℕ, ◌+◌, ◌*◌, ◌≤◌, ◌<◌}
 use native.Mathlib.Omega.{arith}
-use lib.ListN.{length, get_or, length-set}
-use borrow.Author.Rules.{rules}
+use lib.ListN.{get_or, length-set}
 use Rattle.numbers.proofs.Fill.{filled, filled_more}
 use Rattle.settings.specs.Settings.{all_settings, meant}
 use Rattle.settings.proofs.Meant.{threes, filled_meant}
 use Rattle.numbers.specs.Bytes.{number}
-use Rattle.records.specs.Decoded.{load_size, counts, settings_of}
+use Rattle.records.specs.Decoded.{counts, settings_of}
 use Rattle.numbers.proofs.Bytes.{number_at}
 use Rattle.records.proofs.Sizes.{length-settings}
 use Rattle.records.proofs.decoded.settings_of.Goals as goal
