@@ -42,12 +42,14 @@ or_either a b c = Bool.or_assoc a b c ∙ ap (λ (other : Bool). a || other) (or
 pub or_swap : (f g h : ℕ) → (f or g or h) ≡ (f or h or g)
 or_swap f g h =
     same_bits (f or g or h) (f or h or g)
-    (λ k. rw (bit_or_lem k (f or g) h, bit_or_lem k f g, bit_or_lem k (f or h) g, bit_or_lem k f h) (or_either (bit k f) (bit k g) (bit k h)))
+    (λ k.
+    rw (bit_or_lem k (f or g) h, bit_or_lem k f g, bit_or_lem k (f or h) g, bit_or_lem k f h) (or_either (bit k f) (bit k g) (bit k h)))
 
 pub or_assoc : (f g h : ℕ) → (f or (g or h)) ≡ (f or g or h)
 or_assoc f g h =
     same_bits (f or (g or h)) (f or g or h)
-    (λ k. rw (bit_or_lem k f (g or h), bit_or_lem k g h, bit_or_lem k (f or g) h, bit_or_lem k f g) (sym (Bool.or_assoc (bit k f) (bit k g) (bit k h))))
+    (λ k.
+    rw (bit_or_lem k f (g or h), bit_or_lem k g h, bit_or_lem k (f or g) h, bit_or_lem k f g) (sym (Bool.or_assoc (bit k f) (bit k g) (bit k h))))
 
 -- the first of several flags may as well be the last
 first_last :

@@ -1,5 +1,6 @@
 -- Laws of the angle, over both layouts: what it depends on, the offset's sign, and that a full turn leaves it.
-use Rattle.std.proofs.Common.{◌≡◌, ℕ, ◌*◌, ◌/◌, ◌%◌, ◌^◌, ◌<◌, Bool, true, false, T, ℤ, pos, negsuc, sym, refl, ap, ◌∙◌, arith, to_z-of_z, w16, SFits, to_z, of_z}
+use Rattle.std.proofs.Common.{◌≡◌, ℕ, ◌*◌, ◌/◌, ◌%◌, ◌^◌, ◌<◌, Bool, true, false, T, ℤ}
+use Rattle.std.proofs.Common.{pos, negsuc, sym, refl, ap, ◌∙◌, arith, to_z-of_z, w16, SFits, to_z, of_z}
 use lib.IntN.{+ℤ_idr}
 use mir.Facts.{sfits_to_z}
 use Rattle.hall.specs.Layout.{layout, among}

@@ -1,6 +1,7 @@
 -- Laws of the steps, over both layouts and both ways round: a step and the step back, n steps, a full turn, and the count of a sample as a
 -- signed width. What they rest on is one test of a layout, computed at each of its patterns.
-use Rattle.std.proofs.Common.{◌≡◌, ℕ, zero, suc, ◌+◌, ◌-◌, ◌%◌, ◌^◌, ◌<◌, Bool, not, ◌&&◌, T, eqb, length, ℤ, sym, refl, ap, ◌∙◌, arith, eqb→eq, eq-eqb}
+use Rattle.std.proofs.Common.{◌≡◌, ℕ, zero, suc, ◌+◌, ◌-◌, ◌%◌, ◌^◌, ◌<◌, Bool, not}
+use Rattle.std.proofs.Common.{◌&&◌, T, eqb, length, ℤ, sym, refl, ap, ◌∙◌, arith, eqb→eq, eq-eqb}
 use lib.Ieee.Bits.{is_true, is_false}
 use mir.Facts.{and_yes}
 use Rattle.hall.specs.Layout.{Layout, three, two, layout, among, next, previous}

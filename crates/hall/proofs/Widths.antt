@@ -1,6 +1,7 @@
 -- The count of a sample as a signed width, whatever its fate, and that such counts add up: the position after any samples is the first one
 -- moved by the sum of their widths.
-use Rattle.std.proofs.Common.{◌≡◌, ℕ, zero, suc, ◌^◌, ◌<◌, Bool, true, false, ltb, List, [], ◌∷◌, ℤ, pos, negsuc, ◌+ℤ◌, neg_ℤ, refl, ap, ◌∙◌, arith, ltb-false, ltb-true}
+use Rattle.std.proofs.Common.{◌≡◌, ℕ, zero, suc, ◌^◌, ◌<◌, Bool, true, false, ltb, List, []}
+use Rattle.std.proofs.Common.{◌∷◌, ℤ, pos, negsuc, ◌+ℤ◌, neg_ℤ, refl, ap, ◌∙◌, arith, ltb-false, ltb-true}
 use lib.IntN.{sub_ℕ}
 use Rattle.hall.specs.Layout.{layout}
 use Rattle.hall.specs.Fate.{fate}

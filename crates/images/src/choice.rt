@@ -12,6 +12,7 @@ pub struct Choice {
     pub block: u8,
 }
 
+#[tactic(auto, unfolding(crate::specs::Choice::choice))]
 pub fn choose(count: u16) -> Choice
     ensures { result ≡ choice fifteen count }
 {

@@ -110,7 +110,8 @@ kept_of [] = refl
 kept_of (e ∷ before) = rw (kept_of before, noted_alike e before)
 
 keeps : (past : List Seen) → length past ≤ most → Keeps (kept past) past
-unfolding kept since_at History.ever_loaded History.retries History.fault_standing History.start_taken History.before_start History.permitted
+unfolding kept since_at History.ever_loaded History.retries History.fault_standing History.start_taken
+    History.before_start History.permitted
 keeps [] short =
     record {
       heard = refl;

@@ -3,7 +3,8 @@
 -- is written anew here from documents 01 and 02, so that a mistake made in the drive's definitions and code alike is not made here.
 -- Causes 0, 1, 2, 3, 6 and 15 are told by what comes in. Causes 4, 7 and 14 "count only ticks taken in MOTORRUN": none stands in FAULT, so
 -- no exit has to ask for them, and while the drive runs the live word tells them.
-use Rattle.std.specs.Prelude.{ℕ, zero, suc, ◌+◌, ◌*◌, ◌-◌, ◌/◌, ◌%◌, ◌^◌, Bool, not, ◌&&◌, ◌||◌, cond, List, [], ◌∷◌, ◌++◌, eqb, ltb, leb, length, get_or}
+use Rattle.std.specs.Prelude.{ℕ, zero, suc, ◌+◌, ◌*◌, ◌-◌, ◌/◌, ◌%◌, ◌^◌, Bool, not}
+use Rattle.std.specs.Prelude.{◌&&◌, ◌||◌, cond, List, [], ◌∷◌, ◌++◌, eqb, ltb, leb, length, get_or}
 use Rattle.numbers.specs.Count.{up}
 use Rattle.theorems_history.specs.Onlooker.{Asked, load, tick, neither, Words}
 use Rattle.drive.specs.AnyCall.{Call, loads, cycles, ticks, block_loads}

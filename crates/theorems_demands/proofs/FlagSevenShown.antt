@@ -81,7 +81,8 @@ module _ (d : Drive) (r : Reached d) (past : Log) (knows : Remembers d (memory_o
     -- cause 7 stands where the log tells a row that is long enough
     pub lock_alike :
         seven.lock d t
-        ≡ (in_motor_run past && leb (lock_ticks (numbers_of past)) (one_more (numbers_of past) (in_motor_run past) (tick t) (stalled_for past)))
+        ≡ (in_motor_run past && leb (lock_ticks (numbers_of past))
+        (one_more (numbers_of past) (in_motor_run past) (tick t) (stalled_for past)))
     unfolding watched
     lock_alike =
         rw (knows.shown, held_alike d past knows counted t outside, (knows.loaded outside).setting 6 (omega arith))

@@ -152,7 +152,8 @@ module _ (earlier : List Call) where
       × T (untripped row earlier)
   unfolding untripped
   parts row call all =
-      all_three (torque_allowed call) (not (sets7 (entry machine (state_after machine (row ++ earlier)) call) (log machine (row ++ earlier))))
+      all_three (torque_allowed call)
+      (not (sets7 (entry machine (state_after machine (row ++ earlier)) call) (log machine (row ++ earlier))))
       (untripped row earlier)
       all
 

@@ -19,11 +19,11 @@ use Rattle.theorems_demands.proofs.Computes.{computes}
 use Rattle.theorems_demands.proofs.WrongDrives.{Replies, Row, running, all_caught}
 
 -- FAULT left by a block load
-abbrev leaves_by_aBlock_load : Replies
-leaves_by_aBlock_load d (loads numbers) = reply d (loads numbers)
-leaves_by_aBlock_load d (cycles fields) = reply d (cycles fields)
-leaves_by_aBlock_load d (ticks fields) = reply d (ticks fields)
-leaves_by_aBlock_load d (block_loads image block) =
+abbrev leaves_by_a_block_load : Replies
+leaves_by_a_block_load d (loads numbers) = reply d (loads numbers)
+leaves_by_a_block_load d (cycles fields) = reply d (cycles fields)
+leaves_by_a_block_load d (ticks fields) = reply d (ticks fields)
+leaves_by_a_block_load d (block_loads image block) =
     cond (is 5 d.state) (replied 0 0 (freshly (meant (block_numbers image block)))) (reply d (block_loads image block))
 
 -- a block load that leaves the arming
@@ -63,7 +63,7 @@ command_alone = tick_with 0 0 1 0 2623 2623 0 700
 
 abbrev rows : List Row
 rows =
-    (leaves_by_aBlock_load, running ++ (over ∷ loaded_block 4 ∷ [])) ∷
+    (leaves_by_a_block_load, running ++ (over ∷ loaded_block 4 ∷ [])) ∷
     -- "A command already high after load .. taken as a start": of a block load
     (stays_armed, ready loaded ++ (loaded_block 4 ∷ never_low)) ∷
     -- the settings of another block

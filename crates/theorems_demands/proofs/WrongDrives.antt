@@ -153,11 +153,11 @@ trips_in_silence d (ticks fields) =
     cond (is 5 d.state) (replied 0 0 (put MotorRun d)) (replied 0 0 (cond (is 5 next.state) (put next.state next) next))
 
 -- a trip goes to STOP, and no flag is left of it
-abbrev stops_at_aTrip : Replies
-stops_at_aTrip d (block_loads image block) = reply d (block_loads image block)
-stops_at_aTrip d (loads numbers) = reply d (loads numbers)
-stops_at_aTrip d (cycles fields) = reply d (cycles fields)
-stops_at_aTrip d (ticks fields) =
+abbrev stops_at_a_trip : Replies
+stops_at_a_trip d (block_loads image block) = reply d (block_loads image block)
+stops_at_a_trip d (loads numbers) = reply d (loads numbers)
+stops_at_a_trip d (cycles fields) = reply d (cycles fields)
+stops_at_a_trip d (ticks fields) =
     let next : Drive = (reply d (ticks fields)).drive in cond (is 5 next.state) (replied 0 0 (put Stop next)) (replied 0 0 next)
 
 -- a dead sample sends MOTORRUN to IDLE, and the next sample sends it back
@@ -176,17 +176,17 @@ restarts d (cycles fields) = reply d (cycles fields)
 restarts d (ticks fields) = cond (is 4 d.state) (replied 0 0 (put BtsCharge d)) (reply d (ticks fields))
 
 -- FAULT is left in a cycle, or by a load
-abbrev leaves_in_aCycle : Replies
-leaves_in_aCycle d (block_loads image block) = reply d (block_loads image block)
-leaves_in_aCycle d (loads numbers) = reply d (loads numbers)
-leaves_in_aCycle d (cycles fields) = cond (is 5 d.state) (replied 0 0 (put Stop d)) (reply d (cycles fields))
-leaves_in_aCycle d (ticks fields) = reply d (ticks fields)
+abbrev leaves_in_a_cycle : Replies
+leaves_in_a_cycle d (block_loads image block) = reply d (block_loads image block)
+leaves_in_a_cycle d (loads numbers) = reply d (loads numbers)
+leaves_in_a_cycle d (cycles fields) = cond (is 5 d.state) (replied 0 0 (put Stop d)) (reply d (cycles fields))
+leaves_in_a_cycle d (ticks fields) = reply d (ticks fields)
 
-abbrev leaves_by_aLoad : Replies
-leaves_by_aLoad d (block_loads image block) = reply d (block_loads image block)
-leaves_by_aLoad d (loads numbers) = cond (is 5 d.state) (replied 0 0 (freshly (meant numbers))) (reply d (loads numbers))
-leaves_by_aLoad d (cycles fields) = reply d (cycles fields)
-leaves_by_aLoad d (ticks fields) = reply d (ticks fields)
+abbrev leaves_by_a_load : Replies
+leaves_by_a_load d (block_loads image block) = reply d (block_loads image block)
+leaves_by_a_load d (loads numbers) = cond (is 5 d.state) (replied 0 0 (freshly (meant numbers))) (reply d (loads numbers))
+leaves_by_a_load d (cycles fields) = reply d (cycles fields)
+leaves_by_a_load d (ticks fields) = reply d (ticks fields)
 
 -- a retry at FAULT's first tick
 abbrev retries_at_once : Replies
@@ -243,15 +243,15 @@ rows =
     -- "a supervisor that trips without showing a flag, stands in FAULT and runs again with no start"
     (trips_in_silence, running ++ (over ∷ high ∷ [])) ∷
     -- a trip of which nothing is shown, and a start after it; gates that rest, and turn again with no start
-    (stops_at_aTrip, running ++ (over ∷ low ∷ high ∷ [])) ∷
+    (stops_at_a_trip, running ++ (over ∷ low ∷ high ∷ [])) ∷
     (gate_rests, running ++ (shows 6 ∷ shows 1 ∷ [])) ∷
     -- a start anew out of MOTORRUN, with no low
     (restarts, running ++ (high ∷ [])) ∷
     -- "RUN to IDLE and back to RUN without a start"
     (nods, running ++ (shows 0 ∷ shows 1 ∷ [])) ∷
     -- "FAULT left in a cycle or a load, the cause still there"
-    (leaves_in_aCycle, running ++ (over ∷ shows 1 ∷ [])) ∷
-    (leaves_by_aLoad, running ++ (over ∷ loaded ∷ [])) ∷
+    (leaves_in_a_cycle, running ++ (over ∷ shows 1 ∷ [])) ∷
+    (leaves_by_a_load, running ++ (over ∷ loaded ∷ [])) ∷
     -- "a 'retry' at FAULT's first tick, or in mode 0"
     (retries_at_once, running_in_mode1 ++ (over ∷ high ∷ [])) ∷
     (retries_at_once, running ++ (over ∷ high ∷ [])) ∷

@@ -30,7 +30,8 @@ module _ (replies : Replies) where
   untripped (call ∷ row) earlier =
       torque_allowed call
       && not
-      (sets7 (entry (machine_of replies) (state_after (machine_of replies) (row ++ earlier)) call) (log (machine_of replies) (row ++ earlier)))
+      (sets7 (entry (machine_of replies) (state_after (machine_of replies) (row ++ earlier)) call)
+      (log (machine_of replies) (row ++ earlier)))
       && untripped row earlier
 
   abbrev answers_alike : (row earlier : List Call) → Call → Bool

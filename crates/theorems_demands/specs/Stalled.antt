@@ -5,7 +5,8 @@
 -- one that the last answer showed, as the onlooker of demand 3 remembers them. Two things stand in no log: flag 7 where it is masked, which
 -- no answer shows and which is read off the drive's state; and what the drive would answer without torque, by which "no low and no other
 -- cause" is told.
-use Rattle.std.specs.Prelude.{ℕ, suc, ◌+◌, ◌*◌, ◌^◌, ◌≤◌, Bool, true, false, not, ◌&&◌, ◌||◌, cond, ◌≡◌, List, [], ◌∷◌, ◌++◌, map, T, eqb, leb, ℤ, pos, nat_abs}
+use Rattle.std.specs.Prelude.{ℕ, suc, ◌+◌, ◌*◌, ◌^◌, ◌≤◌, Bool, true, false, not, ◌&&◌, ◌||◌}
+use Rattle.std.specs.Prelude.{cond, ◌≡◌, List, [], ◌∷◌, ◌++◌, map, T, eqb, leb, ℤ, pos, nat_abs}
 use Rattle.faults.specs.Word.{bit}
 use Rattle.fields.specs.declared.Tick.{Tick}
 use Rattle.theorems_history.specs.Log.{Entry, state_after, entry, log}

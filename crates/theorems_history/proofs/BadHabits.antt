@@ -10,10 +10,11 @@ use Rattle.theorems_history.proofs.Judges.{judges}
 use Rattle.theorems_history.proofs.Toy.{down, middle, up, fields, Press, loads, ticks, glitch, halt, words, Habit, machine, sound}
 use Rattle.theorems_history.proofs.Toy.{starts_unarmed, starts_in_the_middle, starts_dry, load_keeps_armed, start_keeps_armed}
 use Rattle.theorems_history.proofs.Toy.{trip_keeps_armed}
-use Rattle.theorems_history.proofs.Toy.{arms_in_fault, wakes_in_stop, trips_for_nothing, leaves_alight, leaves_with_cause, leaves_in_aSample}
-use Rattle.theorems_history.proofs.Toy.{leaves_by_aLoad, waits_over_aLoad, retries_at_once, retries_untimed, retries_for_ever}
+use Rattle.theorems_history.proofs.Toy.{arms_in_fault, wakes_in_stop, trips_for_nothing}
+use Rattle.theorems_history.proofs.Toy.{leaves_alight, leaves_with_cause, leaves_in_a_sample}
+use Rattle.theorems_history.proofs.Toy.{leaves_by_a_load, waits_over_a_load, retries_at_once, retries_untimed, retries_for_ever}
 use Rattle.theorems_history.proofs.Toy.{raises_its_limit}
-use Rattle.theorems_history.proofs.Toy.{stores_more, rests, stops_at_aTrip, ignores_low, ignores_cause, ignores_samples, drives_with_fault}
+use Rattle.theorems_history.proofs.Toy.{stores_more, rests, stops_at_a_trip, ignores_low, ignores_cause, ignores_samples, drives_with_fault}
 use Rattle.theorems_history.proofs.Toy.{forgets_fault, drives_in_stop, loads_in_run, says_stop, trips_in_silence, nods}
 
 -- ---- calls by name
@@ -108,12 +109,12 @@ rows =
     (leaves_with_cause, plain ∷ trip ∷ clear_with_cause ∷ []) ∷
     (leaves_with_cause, once ∷ trip ∷ trip ∷ trip ∷ []) ∷
     (leaves_alight, plain ∷ trip ∷ clear ∷ []) ∷
-    (leaves_in_aSample, plain ∷ trip ∷ glitch ∷ []) ∷
-    (leaves_by_aLoad, plain ∷ trip ∷ plain ∷ []) ∷
+    (leaves_in_a_sample, plain ∷ trip ∷ glitch ∷ []) ∷
+    (leaves_by_a_load, plain ∷ trip ∷ plain ∷ []) ∷
     -- a retry is timed: not before its time, and not in a mode that has none
     (retries_at_once, once ∷ trip ∷ high ∷ []) ∷
     (retries_untimed, loads false 1 ∷ trip ∷ high ∷ high ∷ []) ∷
-    (waits_over_aLoad, loads false 1 ∷ trip ∷ high ∷ once ∷ high ∷ []) ∷
+    (waits_over_a_load, loads false 1 ∷ trip ∷ high ∷ once ∷ high ∷ []) ∷
     -- .. and follows a trip: a live fault was there
     (trips_for_nothing, once ∷ high ∷ high ∷ high ∷ []) ∷
     -- no more retries than the load allowed
@@ -130,7 +131,7 @@ rows =
     (says_stop, plain ∷ low ∷ high ∷ halt ∷ []) ∷
     -- gates that rest and turn again without a start; a trip that shows neither FAULT nor a flag, and a start after it
     (rests, plain ∷ low ∷ high ∷ glitch ∷ halfway ∷ glitch ∷ []) ∷
-    (stops_at_aTrip, plain ∷ low ∷ high ∷ trip ∷ low ∷ high ∷ []) ∷
+    (stops_at_a_trip, plain ∷ low ∷ high ∷ trip ∷ low ∷ high ∷ []) ∷
     -- and so does any other state, though halfway a flag nor STOP was ever shown
     (trips_in_silence, plain ∷ low ∷ high ∷ trip ∷ high ∷ []) ∷
     (nods, plain ∷ low ∷ high ∷ halt ∷ halt ∷ []) ∷

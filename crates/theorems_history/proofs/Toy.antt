@@ -111,10 +111,10 @@ pub data Habit : Type 0 where
   -- starts that nothing permits
   starts_unarmed starts_in_the_middle starts_dry load_keeps_armed start_keeps_armed trip_keeps_armed arms_in_fault wakes_in_stop : Habit
   -- exits from FAULT that must not be
-  trips_for_nothing leaves_alight leaves_with_cause leaves_in_aSample leaves_by_aLoad : Habit
-  waits_over_aLoad retries_at_once retries_untimed retries_for_ever raises_its_limit stores_more : Habit
+  trips_for_nothing leaves_alight leaves_with_cause leaves_in_a_sample leaves_by_a_load : Habit
+  waits_over_a_load retries_at_once retries_untimed retries_for_ever raises_its_limit stores_more : Habit
   -- turning when it must not
-  rests stops_at_aTrip ignores_low ignores_cause ignores_samples drives_with_fault forgets_fault : Habit
+  rests stops_at_a_trip ignores_low ignores_cause ignores_samples drives_with_fault forgets_fault : Habit
   drives_in_stop loads_in_run says_stop trips_in_silence nods : Habit
 
 abbrev number : Habit → ℕ
@@ -127,8 +127,8 @@ number trip_keeps_armed = 5
 number arms_in_fault = 6
 number wakes_in_stop = 7
 number leaves_with_cause = 8
-number leaves_in_aSample = 9
-number leaves_by_aLoad = 10
+number leaves_in_a_sample = 9
+number leaves_by_a_load = 10
 number retries_at_once = 11
 number retries_untimed = 12
 number retries_for_ever = 13
@@ -146,10 +146,10 @@ number trips_in_silence = 24
 number nods = 25
 number starts_dry = 26
 number rests = 27
-number stops_at_aTrip = 28
+number stops_at_a_trip = 28
 number trips_for_nothing = 29
 number leaves_alight = 30
-number waits_over_aLoad = 31
+number waits_over_a_load = 31
 
 module _ (habit : Habit) where
   abbrev has : Habit → Bool
@@ -192,15 +192,16 @@ module _ (habit : Habit) where
   next (toy run armed flag timed used limit waited) (loads retry most) =
       cond (has loads_in_run) (toy run armed false retry 0 most 0) (toy run armed flag timed used limit waited)
   next (toy fault armed flag timed used limit waited) (loads retry most) =
-      cond (has leaves_by_aLoad) (loaded false retry most)
-      (cond (has waits_over_aLoad) (toy fault armed flag retry 0 most waited) (toy fault armed flag timed used limit waited))
+      cond (has leaves_by_a_load) (loaded false retry most)
+      (cond (has waits_over_a_load) (toy fault armed flag retry 0 most waited) (toy fault armed flag timed used limit waited))
   next (toy idle armed flag timed used limit waited) (ticks f) = toy idle armed flag timed used limit waited
   next (toy stop armed flag timed used limit waited) (ticks (fields cause clear lever)) =
       cond (flag || cause) (toy fault (has trip_keeps_armed && (armed || is_down lever)) true timed used limit 0)
       (in_stop armed timed lever used limit)
   next (toy run armed flag timed used limit waited) (ticks (fields cause clear lever)) =
       cond (flag && not (has forgets_fault) || cause && not (has ignores_cause))
-      (cond (has stops_at_aTrip) (toy stop false false timed used limit 0) (toy fault false (not (has trips_in_silence)) timed used limit 0))
+      (cond (has stops_at_a_trip) (toy stop false false timed used limit 0)
+      (toy fault false (not (has trips_in_silence)) timed used limit 0))
       (in_run armed timed lever used limit)
   next (toy fault armed flag timed used limit waited) (ticks (fields cause clear lever)) =
       cond (has trips_in_silence) (toy run false false timed used limit 0)
@@ -212,7 +213,7 @@ module _ (habit : Habit) where
       cond (has rests) (toy run (not armed) flag timed used limit waited)
       (toy run armed (flag || not (has ignores_samples)) timed used limit waited)
   next (toy fault armed flag timed used limit waited) glitch =
-      cond (has leaves_in_aSample) (toy stop true false timed used limit 0) (toy fault armed true timed used limit waited)
+      cond (has leaves_in_a_sample) (toy stop true false timed used limit 0) (toy fault armed true timed used limit waited)
   next (toy idle armed flag timed used limit waited) halt =
       cond (has nods) (toy run armed flag timed used limit 0) (toy idle armed flag timed used limit waited)
   next (toy stop armed flag timed used limit waited) halt = toy stop armed flag timed used limit waited
@@ -241,7 +242,7 @@ module _ (habit : Habit) where
   accepts (toy idle armed flag timed used limit waited) (loads retry most) = true
   accepts (toy stop armed flag timed used limit waited) (loads retry most) = true
   accepts (toy run armed flag timed used limit waited) (loads retry most) = has loads_in_run
-  accepts (toy fault armed flag timed used limit waited) (loads retry most) = has leaves_by_aLoad || has waits_over_aLoad
+  accepts (toy fault armed flag timed used limit waited) (loads retry most) = has leaves_by_a_load || has waits_over_a_load
   accepts (toy idle armed flag timed used limit waited) (ticks f) = false
   accepts (toy idle armed flag timed used limit waited) glitch = false
   accepts (toy idle armed flag timed used limit waited) halt = has nods

@@ -21,11 +21,11 @@
 --   started      "that start" is the last move from STOP at an accepted tick that held a high command; its own call counts as since it
 --   began        "the previous start" is whatever enters a starting or running state from outside, or the first of them from any other, at
 --                whatever call; it uses up the low and the retry before it, and ends the start before it
---   everLoaded   there must be a load
+--   ever_loaded  there must be a load
 --   faulted      a live fault stands from a live cause or a live word on, until FAULT is left or a load accepted
---   endsStart    a stop is a tick that held a low, any state but a starting or running one, and gates that neither charge nor drive
---   noneOfThese  a low in the very tick that leaves FAULT is not after the exit
---   exitRule     FAULT is left at an accepted tick only, by a clear or by a retry that is timed, and only after a trip
+--   ends_start   a stop is a tick that held a low, any state but a starting or running one, and gates that neither charge nor drive
+--   none_of_these  a low in the very tick that leaves FAULT is not after the exit
+--   exit_rule    FAULT is left at an accepted tick only, by a clear or by a retry that is timed, and only after a trip
 --   limit        the loaded limit is the one that the load brought
 --
 -- What it leaves to the other demands: that a call is refused just where its row holds, no less and no more (demand 1); that FAULT is

@@ -29,14 +29,14 @@ module _ (first second : ℕ) where
   turning s way (suc n) d p = turning s way n (cycle d (shows p)).drive (onward (layout s) way p)
 
   -- A load; a cycle that shows a pattern; and then a cycle for each sector, one way round, so that the last shows the pattern again.
-  abbrev pub after_aTurn : Way → Drive → List ℕ → ℕ → Answer
-  after_aTurn way d numbers p =
+  abbrev pub after_a_turn : Way → Drive → List ℕ → ℕ → Answer
+  after_a_turn way d numbers p =
       let s : Sensors = named d numbers in (turning s way (length (layout s).order) (load d numbers).drive p).answer
 
   -- The last is accepted, six counts from the 0 of the load, at the angle of the step onto the pattern.
   pub record TurnAnswered (way : Way) (d : Drive) (numbers : List ℕ) (p : ℕ) : Type 0 where
-    pub accepted : (after_aTurn way d numbers p).number ≡ 0
-    pub six : (after_aTurn way d numbers p).position ≡ counted way 6 0
+    pub accepted : (after_a_turn way d numbers p).number ≡ 0
+    pub six : (after_a_turn way d numbers p).position ≡ counted way 6 0
     pub angle :
-        (after_aTurn way d numbers p).angle
+        (after_a_turn way d numbers p).angle
         ≡ entered (layout (named d numbers)) way (to_z w16 (get_or numbers 9 0)) p

@@ -7,7 +7,8 @@ use Rattle.drive.proofs.calls.completed.Given as goal
 
 abbrev pub invariant-loop-i : goal.invariant-loop-i
 invariant-loop-i l =
-    (l.i ≤ length l.numbers) × (length l.settings ≡ all_settings) × ((eqb (length l.numbers) setting_count || eqb (length l.numbers) all_settings) ≡ true)
+    (l.i ≤ length l.numbers) × (length l.settings ≡ all_settings)
+    × ((eqb (length l.numbers) setting_count || eqb (length l.numbers) all_settings) ≡ true)
     × (l.settings ≡ filled threes l.numbers l.i)
 
 abbrev pub decreases-loop-i : goal.decreases-loop-i

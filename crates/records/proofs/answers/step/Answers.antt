@@ -42,13 +42,17 @@ returns-then-output-lt-LINE_LENGTH c =
 pub returns-in-End : goal.returns-in-End
 returns-in-End c =
     let bytes = drop c.args.at c.args.input.now in
-    let is = at_front bytes c.args.output.now c.args.closed c.args.drive c.if-output-lt-LINE_LENGTH.false (meaning bytes End c.in-End.ensures) in
+    let is = at_front bytes c.args.output.now c.args.closed c.args.drive c.if-output-lt-LINE_LENGTH.false
+        (meaning bytes End c.in-End.ensures)
+    in
     record { result = rw is c.resting-in-End.ensures; lent = rw is refl }
 
 pub returns-in-Unknown : goal.returns-in-Unknown
 returns-in-Unknown c =
     let bytes = drop c.args.at c.args.input.now in
-    let is = at_front bytes c.args.output.now c.args.closed c.args.drive c.if-output-lt-LINE_LENGTH.false (meaning bytes Unknown c.in-Unknown.ensures) in
+    let is = at_front bytes c.args.output.now c.args.closed c.args.drive c.if-output-lt-LINE_LENGTH.false
+        (meaning bytes Unknown c.in-Unknown.ensures)
+    in
     record { result = rw is c.refusing.ensures.result; lent = rw is c.refusing.ensures.lent }
 
 pub returns-then-closed : goal.returns-then-closed
@@ -89,7 +93,10 @@ returns-in-Cycle c =
     let is = replied bytes c.args.output.now c.args.closed c.args.drive c.if-output-lt-LINE_LENGTH.false
     (cycles c.in-Cycle.fields) there
     in
-    record { result = rw (is, ← c.cycle.ensures) c.answering-in-Cycle.ensures.result; lent = rw (is, ← c.cycle.ensures) c.answering-in-Cycle.ensures.lent }
+    record {
+      result = rw (is, ← c.cycle.ensures) c.answering-in-Cycle.ensures.result;
+      lent = rw (is, ← c.cycle.ensures) c.answering-in-Cycle.ensures.lent;
+    }
 
 pub returns-in-Tick : goal.returns-in-Tick
 returns-in-Tick c =
@@ -98,7 +105,10 @@ returns-in-Tick c =
     let is = replied bytes c.args.output.now c.args.closed c.args.drive c.if-output-lt-LINE_LENGTH.false
     (ticks c.in-Tick.fields) there
     in
-    record { result = rw (is, ← c.tick.ensures) c.answering-in-Tick.ensures.result; lent = rw (is, ← c.tick.ensures) c.answering-in-Tick.ensures.lent }
+    record {
+      result = rw (is, ← c.tick.ensures) c.answering-in-Tick.ensures.result;
+      lent = rw (is, ← c.tick.ensures) c.answering-in-Tick.ensures.lent;
+    }
 
 pub returns-in-Load : goal.returns-in-Load
 returns-in-Load c =

@@ -11,7 +11,8 @@ use Rattle.records.proofs.decoded.settings_of.Given as goal
 
 abbrev pub invariant-loop-i : goal.invariant-loop-i
 invariant-loop-i l =
-    (l.i ≤ l.count-2) × (l.count ≡ l.count-2) × (length l.settings ≡ all_settings) × (counts l.count-2 ≡ true) × (load_size l.count-2 ≤ length l.bytes)
+    (l.i ≤ l.count-2) × (l.count ≡ l.count-2) × (length l.settings ≡ all_settings)
+    × (counts l.count-2 ≡ true) × (load_size l.count-2 ≤ length l.bytes)
     × (l.settings ≡ filled threes (settings_of l.count-2 l.bytes) l.i)
 
 abbrev pub decreases-loop-i : goal.decreases-loop-i
