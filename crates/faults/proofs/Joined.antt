@@ -49,7 +49,8 @@ pub or_assoc : (f g h : ℕ) → (f or (g or h)) ≡ (f or g or h)
 or_assoc f g h =
     same_bits (f or (g or h)) (f or g or h)
     (λ k.
-    rw (bit_or_lem k f (g or h), bit_or_lem k g h, bit_or_lem k (f or g) h, bit_or_lem k f g) (sym (Bool.or_assoc (bit k f) (bit k g) (bit k h))))
+    rw (bit_or_lem k f (g or h), bit_or_lem k g h, bit_or_lem k (f or g) h, bit_or_lem k f g)
+    (sym (Bool.or_assoc (bit k f) (bit k g) (bit k h))))
 
 -- the first of several flags may as well be the last
 first_last :

@@ -43,7 +43,7 @@ pub returns-in-End : goal.returns-in-End
 returns-in-End c =
     let bytes = drop c.args.at c.args.input.now in
     let is = at_front bytes c.args.output.now c.args.closed c.args.drive c.if-output-lt-LINE_LENGTH.false
-        (meaning bytes End c.in-End.ensures)
+    (meaning bytes End c.in-End.ensures)
     in
     record { result = rw is c.resting-in-End.ensures; lent = rw is refl }
 
@@ -51,7 +51,7 @@ pub returns-in-Unknown : goal.returns-in-Unknown
 returns-in-Unknown c =
     let bytes = drop c.args.at c.args.input.now in
     let is = at_front bytes c.args.output.now c.args.closed c.args.drive c.if-output-lt-LINE_LENGTH.false
-        (meaning bytes Unknown c.in-Unknown.ensures)
+    (meaning bytes Unknown c.in-Unknown.ensures)
     in
     record { result = rw is c.refusing.ensures.result; lent = rw is c.refusing.ensures.lent }
 
