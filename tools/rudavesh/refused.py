@@ -110,11 +110,15 @@ def change(folder: Path, wrong: List[Answer]) -> None:
 
 
 def checked(folder: Path, *words: str) -> Tuple[str, int]:
-    """What a check says of the crate in a folder, and how many seconds it took."""
-    began = time.monotonic()
-    done = subprocess.run(["rt", "check", *words], cwd=folder, stdin=subprocess.DEVNULL, stdout=subprocess.PIPE, stderr=subprocess.STDOUT,
-                          text=True, errors="replace", check=False)  # fmt: skip
-    return done.stdout, round(time.monotonic() - began)
+    """What a check says of the crate in a folder, and how many seconds it took. One that ends without a verdict, most likely for memory, is
+    made once more."""
+    for _ in range(2):
+        began = time.monotonic()
+        done = subprocess.run(["rt", "check", *words], cwd=folder, stdin=subprocess.DEVNULL, stdout=subprocess.PIPE,
+                              stderr=subprocess.STDOUT, text=True, errors="replace", check=False)  # fmt: skip
+        if ENDED.search(done.stdout):
+            break
+    return f"{done.stdout}rt check: status {done.returncode}\n", round(time.monotonic() - began)
 
 
 def keep(log: Path, said: str, word: str) -> None:
