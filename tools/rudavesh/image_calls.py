@@ -1,6 +1,5 @@
 """The proved calls behind ./image: what it asks ./blockline and ./benchline, and what their lines say. These decide; here is only asked."""
 
-import re
 import struct
 import subprocess
 from typing import Dict, Iterable, List, NamedTuple, Optional
@@ -9,7 +8,6 @@ from .image_form import BLOCKS, MOST, image_record
 from .places import ROOT
 from .settings_text import Settings, settings_of
 
-LETTER = re.compile(r" [FSWBDX.]$")
 DONE, OUT_OF_RANGE, BAD_SETTING, MALFORMED, NO_BLOCK, EMPTY = 0, 1, 2, 7, 8, 9
 
 
@@ -26,8 +24,6 @@ class Unexpected(Exception):
 
 
 class Answer(NamedTuple):
-    """Number, place and what comes behind them, without the letter of a sample that ends a line of benchline (M-105)."""
-
     number: int
     place: int
     rest: List[int]
@@ -50,7 +46,7 @@ def answers(word: str, records: List[bytes]) -> List[Answer]:
         raise Ended(process.returncode)
     lines = printed.decode("ascii", errors="replace").splitlines()
     try:
-        found = [list(map(int, LETTER.sub("", line).split(" "))) for line in lines]
+        found = [list(map(int, line.split(" "))) for line in lines]
         answered = [Answer(number, place, rest) for number, place, *rest in found]
     except ValueError as error:
         raise Unexpected(f"{word} printed {lines[-1][:60]!r}") from error

@@ -120,7 +120,7 @@ def load_block(given: Input, drive: dict) -> list:
         number, drive["live"] = 2, drive["live"] if drive["state"] else 4096
     elif number == 0:
         drive.update(state=1, live=0)
-    return [number, place, drive["state"], 0, drive["live"], *6 * [0], "."]  # no sample: a full stop (M-105)
+    return [number, place, drive["state"], 0, drive["live"], *6 * [0]]
 
 
 def lines(program: str, content: bytes):
