@@ -152,7 +152,8 @@ def missing_edits_and_tests(root: Path, line: str) -> Iterator[Tuple[str, str]]:
 
 
 def documents(root: Path) -> List[Path]:
-    return [root / "README.md", *sorted((root / "docs").glob("**/*.md"))]
+    """The pages whose citations are looked at; docs/PORT.md sets names that were beside those that are."""
+    return [root / "README.md", *(page for page in sorted((root / "docs").glob("**/*.md")) if page != root / "docs" / "PORT.md")]
 
 
 def missing(root: Path) -> List[Citation]:
