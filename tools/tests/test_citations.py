@@ -49,7 +49,7 @@ class Checker(unittest.TestCase):
             "`Fate.antt`",
             "`hall/{specs,src}`, `crates/hall/{specs/Fate,specs/Fate}.antt`, `crates/hall`, `hall/late`, `crates.txt`",
             '`./tools/strip README.md --title "The shift" > shift.svg` and `tools/strip`',
-            "`target/log/NAME.out`, `1 + 2`, `x = y`, `a name`, `logic=proved`",
+            "`target/log/NAME.out`, `/dev/fd/3`, `1 + 2`, `x = y`, `a name`, `logic=proved`",
             "`fate` in `crates/hall/specs/Fate.antt`",
             "| `hall` Fate.antt `fate`, `next-one`; `run` Fate.antt `other` | Fate.antt `other` (`what`), `hall` src/fate.rt `judged` |",
             "`hall::fate::judged(kept)`, `libc::read`; edits `hall/late`, `late`; model `p1_turns`",
