@@ -1,13 +1,25 @@
--- Digits made from the right, one a turn, and how many there are.
+-- What a digit is, computed over the text of the sixteen; digits made from the right, one a turn, and how many there are.
 use Prim.Native.Nat.{ℕ, zero, suc, ◌+◌, ◌-◌, ◌/◌, ◌%◌, ◌≤◌, ◌<◌}
 use native.Mathlib.Nat.{le_refl, not-suc-le-zero}
 use native.Mathlib.Numerals.{add-one, sub-one}
 use mathlib.Core.Path.{◌≡◌, refl}
+use mathlib.Core.Bool.{cond}
 use mathlib.Core.List.{List}
+use lib.Dec.{eqb, ltb, eqb→eq}
 use lib.ListN.{length, set, length-append}
 use lib.Seq.{sets}
+use Rattle.numbers.proofs.Table.{at}
+use Rattle.text.specs.Text.{text}
 use Rattle.report.proofs.Runs.{sets_append, set_past}
 use Rattle.report.specs.Text.{digit, digits}
+
+-- a digit worked out is what the text has at its place: one test, which antt computes at all sixteen
+abbrev pub worked_out : ℕ → ℕ
+worked_out value = cond (ltb value 10) (48 + value) (65 + (value - 10))
+
+pub as_in_the_text : (value : ℕ) → value < 16 → digit value ≡ worked_out value
+as_in_the_text value below =
+    eqb→eq _ _ (at (λ (place byte : ℕ). eqb byte (worked_out place)) (text "0123456789ABCDEF") 0 tt value below)
 
 pub length_digits : (base width n : ℕ) → length (digits base width n) ≡ width
 unfolding digits
