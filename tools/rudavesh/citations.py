@@ -28,7 +28,7 @@ EDITS = re.compile(rf"\bedits? ({NAMES})")
 MODEL = re.compile(rf"\bmodel ({NAMES})")
 OF_CODE = re.compile(r"(\w+)::(?:\w+::)*(\w+)(?:\(.*\))?")
 # What a check or a build leaves is not in the repository, nor what the system has.
-MADE = ("target/", "model/target/", "/")
+MADE = ("target/", "model/target/", "/dev/fd/")
 
 # Names that stand for others, or that a landing of the past tells of: document and name, and why it need not be there.
 EXEMPT = {
