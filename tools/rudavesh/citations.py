@@ -152,8 +152,9 @@ def missing_edits_and_tests(root: Path, line: str) -> Iterator[Tuple[str, str]]:
 
 
 def documents(root: Path) -> List[Path]:
-    """The pages whose citations are looked at; docs/PORT.md sets names that were beside those that are."""
-    return [root / "README.md", *(page for page in sorted((root / "docs").glob("**/*.md")) if page != root / "docs" / "PORT.md")]
+    """The pages whose citations are looked at, but for those that set names that were beside those that are."""
+    apart = (root / "docs" / "PORT.md", root / "docs" / "DESIGN-PASS.md")
+    return [root / "README.md", *(page for page in sorted((root / "docs").glob("**/*.md")) if page not in apart)]
 
 
 def missing(root: Path) -> List[Citation]:
