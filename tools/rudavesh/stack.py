@@ -41,19 +41,31 @@ pub extern "C" fn {name}(
     answer.reference = reference;
     answer.position = position;
     answer.angle = angle;
-    let verdict = report::line(answer, lent);
+    let told = report::line(answer, lent);
     {told}
 }}
 """
 
 
-# What is called in one place the compiler puts there. In three it stays a function of its own, as in a program, and its frame is its own.
-SOURCE = "".join([
-    "#![tactic(auto)]\n\nuse drive::Drive;\nuse drive::answer::answered;\n",
-    for_c(CALL, "u16", "verdict.number as u16 * 256 + verdict.place as u16"),
-    for_c("number_for_c", "u8", "verdict.number"),
-    for_c("place_for_c", "u8", "verdict.place"),
-])  # fmt: skip
+# What the line call tells: number and place in one, and each. An earlier tree hands both back, one of today a refusal.
+EARLIER = ("told.number as u16 * 256 + told.place as u16", "told.number", "told.place")
+TODAY = tuple(f"match told {{ Ok(()) => 0, Err(refusal) => {of_it} }}" for of_it in (
+    "refusal.number() as u16 * 256 + refusal.place() as u16", "refusal.number()", "refusal.place()"))  # fmt: skip
+
+
+def source_of(place: Path) -> str:
+    """The line call for C, of the crates in a folder. What is called in one place the compiler puts there. In three it stays a function of
+    its own, as in a program, and its frame is its own."""
+    refused = "enum Refusal" in (crate_folder("verdicts", place) / "src" / "lib.rt").read_text(encoding="utf-8")
+    both, number, spot = TODAY if refused else EARLIER
+    return "".join([
+        "#![tactic(auto)]\n\nuse drive::Drive;\nuse drive::answer::answered;\n",
+        for_c(CALL, "u16", both),
+        for_c("number_for_c", "u8", number),
+        for_c("place_for_c", "u8", spot),
+    ])  # fmt: skip
+
+
 CALLER = Path(__file__).with_name("million_lines.rs")
 MILLION, COUNTED, RUNS = 1_000_000, 10_000, 20  # lines that are timed and compared, lines that valgrind counts, runs that are timed
 NAMES = {"rt": "the Rattle kit is missing: its command rt", "objdump": "objdump (of binutils)"}
@@ -101,7 +113,7 @@ def lay_out(place: Path, revision: str) -> Path:
     crates = crates_of(place)
     source = crate_folder(CALL, place) / "src" / "lib.rt"
     source.parent.mkdir(parents=True)
-    source.write_text(SOURCE)
+    source.write_text(source_of(place))
     lines = [*(f"{name}: {' '.join(crates[name])}" for name in known), f"{CALL} staticlib: {' '.join(known)}"]
     (place / "crates.txt").write_text("\n".join(lines) + "\n")
     return crate_folder(CALL, place)

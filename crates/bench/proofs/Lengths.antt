@@ -3,6 +3,7 @@ use Prim.Native.Nat.{◌≤◌}
 use native.Mathlib.Omega.{arith}
 use lib.ListN.{length, length-append}
 use Rattle.drive.specs.declared.answer.Answer.{Answer}
+use Rattle.text.proofs.Chains.{behind_front, written_front}
 use Rattle.text.proofs.Decimals.{at_most_twenty, at_most_twenty_one}
 use Rattle.bench.specs.Line.{motor_line, refusal_line, line_room}
 
@@ -28,3 +29,5 @@ line_fits answer =
 pub refusal_fits : length refusal_line ≤ line_room
 unfolding refusal_line
 refusal_fits = omega arith
+
+pub ruleset fronts = (behind_front, written_front, line_fits, refusal_fits)

@@ -1,8 +1,9 @@
 pub mod Grown
 pub mod Meaning
 pub mod Lengths
-pub mod Pages
 pub mod Laws
+pub mod Turns
 pub mod Stream
+pub mod Signed
 -- Of the promises themselves.
 pub mod OneReply

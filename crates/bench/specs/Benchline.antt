@@ -1,11 +1,10 @@
 -- The page of the bench programs, "benchline: any call of the supervisors, whole answers": the program.
-use Rattle.std.specs.Prelude.{ℕ, length}
+use Rattle.std.specs.Prelude.{ℕ}
 use Rattle.drive.specs.AnyCall.{reply}
 use Rattle.drive.specs.declared.Drive.{Drive}
-use Rattle.streams.specs.Run.{Program, Outcome}
+use Rattle.streams.specs.Run.{Program}
 use Rattle.bench.specs.Table.{Record, call_of, size_of, front}
 use Rattle.bench.specs.Line.{motor_line, refusal_line, line_room}
-use Rattle.bench.specs.declared.Ran.{Ran}
 
 -- "A program prints one line for each record, after it"; "A record whose letter is unknown, or that the input cuts short, or that a rule
 -- below calls bad, prints the line `?` and ends the run"
@@ -19,10 +18,6 @@ benchline =
       refusal = λ (d : Drive). refusal_line;
       line_room = line_room;
     }
-
--- what the caller is handed of a run
-abbrev pub ran_of : Outcome Drive → Ran
-ran_of o = record { drive = o.state; taken = o.taken; written = length o.lines; ended = o.ended }
 
 -- the buffers of the program: so many bytes of records, and so many of lines
 abbrev pub input_size : ℕ

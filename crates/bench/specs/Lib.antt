@@ -1,4 +1,3 @@
 pub mod Table
 pub mod Line
-pub mod Pages
 pub mod Benchline

@@ -22,15 +22,6 @@ motor_line answer =
     ++ (decimal answer.retries ++ text " ")
     ++ ((letter answer.judged ∷ []) ++ text "\n")
 
--- its first five numbers
-unfoldable pub motor_front : Answer → List ℕ
-motor_front answer =
-    (decimal answer.number ++ text " ")
-    ++ (decimal answer.place ++ text " ")
-    ++ (decimal answer.state ++ text " ")
-    ++ (decimal answer.gate ++ text " ")
-    ++ (decimal answer.live ++ text " ")
-
 -- "prints the line `?`"
 unfoldable pub refusal_line : List ℕ
 refusal_line = text "?\n"

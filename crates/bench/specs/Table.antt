@@ -1,12 +1,15 @@
 -- The page of the bench programs, "benchline: any call of the supervisors, whole answers": its table of records.
-use Rattle.std.specs.Prelude.{cond, ℕ, ◌+◌, ◌*◌, List, eqb, ltb, length, take, drop}
+use Rattle.std.specs.Prelude.{cond, ℕ, ◌+◌, ◌*◌, List, Result, Ok, Err, eqb, ltb, length, take, drop}
 use Prim.Native.Char.{code}
-use Rattle.drive.specs.AnyCall.{Call, loads, cycles, ticks, block_loads}
+use Rattle.drive.specs.AnyCall.{Call, loads, block_loads}
 use Rattle.numbers.specs.Bytes.{byte, number, numbers}
 use Rattle.records.specs.Front as shiftline
+use Rattle.streams.specs.declared.Missing.{Missing}
+use Rattle.streams.specs.declared.Missing.TheVariants.{End, Unknown, Short}
+use Rattle.records.specs.declared.Record.{Record as Read}
 use Rattle.streams.specs.Run.{Front, end, unknown, short, whole}
 use Rattle.bench.specs.declared.find.Found.{Found}
-use Rattle.bench.specs.declared.find.Found.TheVariants.{End, Unknown, Short, Load, Cycle, Tick, Image}
+use Rattle.bench.specs.declared.find.Found.TheVariants.{Shiftline, Numbered, Imaged}
 
 -- the rows of the table: "L, C, T | as in `shiftline`"; "M | as in `shiftline`"; "N | count (1 byte), then so many numbers"; "B | block (1
 -- byte), length (at most 2048, more is bad), so many bytes"
@@ -64,15 +67,17 @@ front bytes =
     cond (eqb (byte 0 bytes) (code "N")) (numbered_front bytes)
     (cond (eqb (byte 0 bytes) (code "B")) (imaged_front bytes) (as_shiftline (shiftline.front bytes)))
 
--- What the reader hands on. No enum of the code holds an array, so of a load it tells where its numbers begin and how many they are, and of
--- a block load the block and how many bytes its image has. No record of `shiftline` is a block load.
-abbrev pub found : Front Record → Found
-found end = End
-found unknown = Unknown
-found short = Short
-found (whole (as_in_shiftline (loads given))) = Load 1 (length given)
-found (whole (as_in_shiftline (cycles fields))) = Cycle fields
-found (whole (as_in_shiftline (ticks fields))) = Tick fields
-found (whole (as_in_shiftline (block_loads image block))) = Unknown
-found (whole (numbered given)) = Load 2 (length given)
-found (whole (imaged block image)) = Image block (length image)
+-- what the reader of `shiftline` hands on, handed on
+abbrev pub again : Result Read Missing → Result Found Missing
+again (Ok record_) = Ok (Shiftline record_)
+again (Err missing) = Err missing
+
+-- what the reader hands on: a whole record of `shiftline`, how many its numbers are, or which block and how many bytes its image has; or
+-- why there is none
+abbrev pub found : Front Record → Result Found Missing
+found end = Err End
+found unknown = Err Unknown
+found short = Err Short
+found (whole (as_in_shiftline call)) = again (shiftline.found (whole call))
+found (whole (numbered given)) = Ok (Numbered (length given))
+found (whole (imaged block image)) = Ok (Imaged block (length image))

@@ -1,66 +1,67 @@
-// What stands at a place of the input: the rows of the page's table.
-ghost use Rattle.std.specs.Prelude.{◌≡◌, ◌<◌, length, drop};
-ghost use Rattle.bench.specs.Table.{imaged_front, front, found};
+// What stands at the front of the bytes: the rows of the page's table.
+ghost use Rattle.std.specs.Prelude.{◌≡◌};
+ghost use Rattle.bench.specs.Table.{numbered_size, imaged_size, numbered_front, imaged_front, front, found};
 
-use fields::{Cycle, Tick};
 use numbers::{byte_at, number_at};
-use records::read;
+use records::{Missing, Record, read};
 
 // The longest image of a block load.
 const LONGEST_IMAGE: u16 = 2048;
 
-// Of a load it tells where in the record its numbers begin and how many they are; of a block load the block, and how many bytes its
-// image has.
+// A whole record: one of `shiftline`; a load of so many numbers; a load of this block from an image of so many bytes.
 #[derive(Clone, Copy)]
 pub(crate) enum Found {
-    End,
-    Unknown,
-    Short,
-    Load(u8, u8),
-    Cycle(Cycle),
-    Tick(Tick),
-    Image(u8, u16),
+    Shiftline(Record),
+    Numbered(u8),
+    Imaged(u8, u16),
 }
 
-// A block load, or a part of one, or none.
-fn find_imaged(input: &[u8], at: usize) -> Found
-    requires { at < length input.now }
-    ensures { result ≡ found (imaged_front (drop at input.now)) }
+// How many bytes such records have.
+pub(crate) fn numbered_size(count: u8) -> usize
+    ensures { result ≡ numbered_size count }
 {
-    let there = input.len() - at;
-    if there < 4 {
-        return Found::Short;
+    2 + 2 * usize::from(count)
+}
+
+pub(crate) fn imaged_size(size: u16) -> usize
+    ensures { result ≡ imaged_size size }
+{
+    4 + usize::from(size)
+}
+
+fn numbered(bytes: &[u8]) -> Result<Found, Missing>
+    ensures { result ≡ found (numbered_front bytes.now) }
+{
+    let count = byte_at(bytes, 1);
+    if bytes.len() < numbered_size(count) {
+        return Err(Missing::Short);
     }
-    let size = number_at(input, at + 2);
+    Ok(Found::Numbered(count))
+}
+
+fn imaged(bytes: &[u8]) -> Result<Found, Missing>
+    ensures { result ≡ found (imaged_front bytes.now) }
+{
+    if bytes.len() < 4 {
+        return Err(Missing::Short);
+    }
+    let size = number_at(bytes, 2);
     if LONGEST_IMAGE < size {
-        return Found::Unknown;
+        return Err(Missing::Unknown);
     }
-    if there < 4 + (size as usize) {
-        return Found::Short;
+    if bytes.len() < imaged_size(size) {
+        return Err(Missing::Short);
     }
-    Found::Image(byte_at(input, at + 1), size)
+    Ok(Found::Imaged(byte_at(bytes, 1), size))
 }
 
-pub(crate) fn find(input: &[u8], at: usize) -> Found
-    ensures { result ≡ found (front (drop at input.now)) }
+#[tactic(auto, unfolding(crate::specs::Table::front))]
+pub(crate) fn find(bytes: &[u8]) -> Result<Found, Missing>
+    ensures { result ≡ found (front bytes.now) }
 {
-    let letter = byte_at(input, at);
-    if letter == b'N' {
-        let count = byte_at(input, at + 1);
-        if input.len() - at < 2 + 2 * (count as usize) {
-            return Found::Short;
-        }
-        return Found::Load(2, count);
-    }
-    if letter == b'B' {
-        return find_imaged(input, at);
-    }
-    match read(input, at) {
-        records::Found::End => Found::End,
-        records::Found::Unknown => Found::Unknown,
-        records::Found::Short => Found::Short,
-        records::Found::Load(count) => Found::Load(1, count),
-        records::Found::Cycle(fields) => Found::Cycle(fields),
-        records::Found::Tick(fields) => Found::Tick(fields),
+    match byte_at(bytes, 0) {
+        b'N' => numbered(bytes),
+        b'B' => imaged(bytes),
+        _ => read(bytes, 0).map(Found::Shiftline),
     }
 }

@@ -3,15 +3,15 @@
 
 mod find;
 mod line;
-mod numbered;
 mod steps;
 
 ghost use Rattle.std.specs.Prelude.{◌≡◌, ◌≤◌, length};
-ghost use Rattle.streams.specs.Run.{run, output_after};
-ghost use Rattle.bench.specs.Benchline.{benchline, ran_of};
+ghost use Rattle.streams.specs.Run.{run, output_after, ran_of};
+ghost use Rattle.bench.specs.Benchline.{benchline};
 
 use drive::Drive;
-use steps::{resting, step};
+pub use steps::Benchline;
+use streams::Ran;
 
 // Room for any line: nine numbers of twenty digits at most, two with a sign besides, a letter, and a byte after each.
 pub const LINE_ROOM: usize = 9 * 21 + 2 * 22 + 2;
@@ -22,35 +22,13 @@ pub const INPUT_SIZE: usize = 4096;
 
 pub const OUTPUT_SIZE: usize = 1048576;
 
-// What a run has come to: the drive that it leaves, how many bytes of the input it took and of the output it wrote, and whether a line
-// `?` ended it.
-#[derive(Clone, Copy)]
-pub struct Ran {
-    pub drive: Drive,
-    pub taken: usize,
-    pub written: usize,
-    pub ended: bool,
-}
-
 // Takes whole records from the front of the input and writes their lines one after the other, until the input holds no whole record
 // or the output has no room for a line. `closed` says that no more input will come.
-pub fn run(drive: Drive, input: &[u8], closed: bool, output: &mut [u8]) -> Ran
+pub fn run(drive: Drive, input: &[u8], closed: bool, output: &mut [u8]) -> Ran<Drive>
     ensures result { result ≡ ran_of (run benchline closed (length output.old) input.now drive) }
     ensures lent { output.new
         ≡ output_after (run benchline closed (length output.old) input.now drive) output.old }
     ensures within { (result.taken ≤ length input.now) × (result.written ≤ length output.old) }
 {
-    let mut ran = resting(drive);
-    loop {
-        let taken = ran.taken;
-        let written = ran.written;
-        let mut one = step(ran.drive, input, taken, closed, &mut output[written..]);
-        let last = one.taken == 0;
-        one.taken = taken + one.taken;
-        one.written = written + one.written;
-        ran = one;
-        if last {
-            return ran;
-        }
-    }
+    streams::run::<Benchline>(drive, input, closed, output)
 }

@@ -7,7 +7,8 @@ use lib.ListN.{length}
 use Rattle.streams.specs.Run.{end, whole}
 use Rattle.streams.specs.Stream.{Lawful, Held, Roomy}
 use Rattle.streams.proofs.Grown.{none, few, within, read_off, still_unknown, still_whole}
-use Rattle.blocks.specs.Table.{Record, reads, chooses, writes, head_size, size_of, sizes_of, front}
+use Rattle.std.specs.Prelude.{map}
+use Rattle.blocks.specs.Table.{handed, Record, reads, chooses, writes, head_size, size_of, sizes_of, front}
 use Rattle.blocks.specs.Line.{line_for, line_room}
 use Rattle.blocks.specs.Blockline.{blockline, input_size, output_size, most_held}
 use Rattle.blocks.proofs.Places.{at_least, sizes_are}
@@ -35,11 +36,11 @@ fitting bytes (reads block image) (off, most) =
     (omega arith, omega arith)
 fitting bytes (chooses count) off = (omega (arith, chooses_length count), omega (arith, chooses_length count))
 fitting bytes (writes lent holds blocks) (off, most) =
-    let long = writes_length lent holds blocks in
+    let long = writes_length lent holds (map handed blocks) in
     let size : 34 ≤ head_size + sizes_of blocks = rw (off, sizes_are bytes 15) (at_least bytes 15) in
     (omega arith, omega arith)
 
-fits : (bytes : List ℕ) (r : Record) → front bytes ≡ whole r
+pub fits : (bytes : List ℕ) (r : Record) → front bytes ≡ whole r
     → (length (line_for r) ≤ line_room) × (length (line_for r) ≤ line_rate * size_of r)
 fits bytes r is = fitting bytes r (read_off blockline ReadOff (λ _. most_held) grown bytes r is)
 

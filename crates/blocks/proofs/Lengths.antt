@@ -1,21 +1,24 @@
 -- How long a line can be, whatever it shows.
-use mathlib.Core.Path.{◌≡◌, refl}
+use mathlib.Core.Path.{◌≡◌, refl, ◌∙◌}
 use mathlib.Core.Bool.{Bool, true, false, cond}
 use mathlib.Core.List.{List, ◌∷◌, ◌++◌}
 use Prim.Native.Nat.{ℕ, ◌+◌, ◌*◌, ◌/◌, ◌≤◌}
 use native.Mathlib.Omega.{arith}
-use lib.ListN.{length, drop, replicate, length-append, length-take, length-drop, length-replicate}
+use lib.ListN.{length, take, drop, replicate, length-append, length-take, length-drop, length-replicate}
 use borrow.Author.Tests.{eqb-true}
 use Rattle.numbers.proofs.Bytes.{length-numbers}
+use lib.Seq.{take_at}
+use Rattle.std.proofs.lemmas.List.{take-replicate}
+use Rattle.text.proofs.Chains.{behind_front, written_front}
 use Rattle.text.proofs.Decimals.{at_most_twenty}
 use Rattle.verdicts.specs.Table.{verdict}
 use Rattle.images.specs.Image.{fifteen}
 use Rattle.images.specs.Table.{numbers_in}
 use Rattle.images.specs.Reads.{read_rows, part, found}
-use Rattle.images.specs.Writes.{image_in, write_rows, is_written, written, lent_after}
-use Rattle.images.specs.declared.Block.{Block}
+use Rattle.images.specs.Writes.{Block, image_in, write_rows, is_written, written, lent_after}
 use Rattle.images.proofs.Rows.{image_fits}
 use Rattle.blocks.specs.Line.{line_of, reads_line, chooses_line, writes_line, refusal_line, line_room}
+use Rattle.blocks.specs.Table.{most_bytes}
 use Rattle.blocks.proofs.Fields.{length_fields}
 
 length-line : (first : ℕ) (more : List ℕ) → length (line_of first more) ≤ 21 * (1 + length more)
@@ -66,3 +69,18 @@ writes_length lent holds blocks =
 pub refusal_fits : length refusal_line ≤ line_room
 unfolding refusal_line
 refusal_fits = omega arith
+
+pub ruleset fronts = (behind_front, written_front, refusal_fits)
+
+-- what the writer is lent, and what is shown of what it leaves: so many of the bytes that the code has
+module _ (count holds : ℕ) (few : count ≤ most_bytes) where
+  pub is_lent : take count (replicate most_bytes holds) ≡ replicate count holds
+  is_lent = take-replicate count most_bytes holds few
+
+  pub is_shown : (blocks : List Block) (rest : List ℕ)
+      → take count (lent_after blocks (replicate count holds) ++ rest) ≡ lent_after blocks (replicate count holds)
+  is_shown blocks rest =
+      take_at (lent_after blocks (replicate count holds)) rest count
+      (length-lent blocks (replicate count holds) ∙ length-replicate count holds)
+
+pub ruleset lent = (is_lent, is_shown, length-replicate)

@@ -4,6 +4,7 @@ pub mod Meaning
 pub mod Fields
 pub mod Lengths
 pub mod Laws
+pub mod Turns
 pub mod Stream
 -- Of the promises themselves.
 pub mod OneReply

@@ -1,15 +1,23 @@
 -- The blocks of W: where they begin, how many bytes they have, and that bytes which come later change nothing of those that are there.
+use native.Mathlib.Nat.{eq-or-lt_of_le}
+use borrow.Author.Tests.{lt-ltb}
+use Rattle.std.proofs.Math.Bool.{or-true}
+use mathlib.Core.Bool.{true}
+use mathlib.Core.Logic.{⊎_elim}
 use mathlib.Core.Path.{◌≡◌, refl}
 use mathlib.Core.List.{List, [], ◌∷◌, ◌++◌}
 use Prim.Native.Nat.{ℕ, zero, suc, ◌+◌, ◌*◌, ◌≤◌, ◌<◌}
 use native.Mathlib.Omega.{arith}
 use lib.Dec.{T, ltb, ltb→lt, nltb→le}
 use lib.ListN.{length, get_or-eq_default}
+use Rattle.std.specs.Prelude.{cond, map, Result, Ok, Err}
+use Rattle.images.specs.Writes.{Block}
+use Rattle.streams.specs.declared.Missing.{Missing}
+use Rattle.streams.specs.declared.Missing.TheVariants.{Unknown}
 use Rattle.numbers.specs.Bytes.{byte}
 use Rattle.numbers.proofs.Bytes.{byte_kept, numbers_kept}
 use Rattle.numbers.proofs.Tests.{decide, or_cases, or_left, or_right}
-use Rattle.images.specs.declared.Block.{Block}
-use Rattle.blocks.specs.Table.{head_size, following, block_size, sizes_of, place_of, bad_kind, block_at, blocks_of}
+use Rattle.blocks.specs.Table.{Given, handed, head_size, following, block_size, sizes_of, place_of, bad_kind, block_at, blocks_of}
 
 pub at_least : (bytes : List ℕ) (k : ℕ) → 4 + 2 * k ≤ place_of bytes k
 unfolding place_of
@@ -21,7 +29,7 @@ unfolding place_of
 at_most bytes zero = omega arith
 at_most bytes (suc k) = omega (arith, at_most bytes k)
 
-sizes_more : (blocks : List Block) (b : Block) → sizes_of (blocks ++ (b ∷ [])) ≡ sizes_of blocks + block_size b.count
+sizes_more : (blocks : List Given) (b : Given) → sizes_of (blocks ++ (b ∷ [])) ≡ sizes_of blocks + block_size b.count
 unfolding sizes_of
 sizes_more [] b = omega arith
 sizes_more (first ∷ blocks) b = omega (arith, sizes_more blocks b)
@@ -32,6 +40,21 @@ unfolding place_of blocks_of block_at sizes_of
 sizes_are bytes zero = refl
 sizes_are bytes (suc k) =
     rw (sizes_more (blocks_of bytes k) (block_at bytes (place_of bytes k))) (omega (arith, sizes_are bytes k))
+
+-- one of a bad kind is enough
+pub one_bad : (bytes : List ℕ) (k n : ℕ) → k < n → 1 < byte (place_of bytes k) bytes → bad_kind bytes n ≡ true
+unfolding bad_kind
+one_bad bytes k zero below bad = absurd (omega arith)
+one_bad bytes k (suc n) below bad =
+    ⊎_elim (λ same. rw (← same, lt-ltb 1 (byte (place_of bytes k) bytes) bad, or-true))
+    (λ less. rw (one_bad bytes k n less bad))
+    (eq-or-lt_of_le (omega arith))
+
+-- so the code may stop at the first of them
+pub stopped : (bytes : List ℕ) (k place : ℕ) → k < 15 → place ≡ place_of bytes k → 1 < byte place bytes
+    → ◌≡◌ {A = Result (List Block × ℕ) Missing} (Err Unknown)
+    (cond (bad_kind bytes 15) (Err Unknown) (Ok (map handed (blocks_of bytes 15), place_of bytes 15)))
+stopped bytes k place below is bad = rw (one_bad bytes k 15 below (rw is at bad))
 
 -- the bytes `b` come behind `a`
 module _ (a b : List ℕ) where

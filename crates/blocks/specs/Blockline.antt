@@ -1,9 +1,8 @@
 -- The page of the bench programs, "blockline: images": the program.
-use Rattle.std.specs.Prelude.{ℕ, false, List, length}
+use Rattle.std.specs.Prelude.{ℕ, false, List}
 use Rattle.streams.specs.Run.{Program, Outcome, lined}
 use Rattle.blocks.specs.Table.{Record, size_of, front}
 use Rattle.blocks.specs.Line.{line_for, refusal_line, line_room}
-use Rattle.blocks.specs.declared.Ran.{Ran}
 
 -- no record leaves anything to the next
 abbrev pub State : Type 0
@@ -25,10 +24,6 @@ blockline =
 -- a line for so many bytes
 abbrev pub answered : List ℕ → ℕ → Outcome State
 answered line taken = lined line tt taken false
-
--- what the caller is handed of a run
-abbrev pub ran_of : Outcome State → Ran
-ran_of o = record { taken = o.taken; written = length o.lines; ended = o.ended }
 
 -- the buffers of the program: so many bytes of records, and so many of lines
 abbrev pub input_size : ℕ

@@ -1,15 +1,16 @@
 -- The page of the bench programs, "blockline: images": its lines.
-use Rattle.std.specs.Prelude.{ℕ, ◌+◌, ◌*◌, List, [], ◌∷◌, ◌++◌, replicate}
+use Rattle.std.specs.Prelude.{ℕ, ◌+◌, ◌*◌, List, [], ◌∷◌, ◌++◌, map, replicate, Option, None, Some}
 use Rattle.text.specs.Text.{text}
 use Rattle.text.specs.Decimal.{decimal}
-use Rattle.verdicts.specs.Table.{verdict}
+use Rattle.verdicts.specs.declared.Refusal.{Refusal}
+use Rattle.verdicts.specs.Table.{Verdict, accepted, verdict, number_of, place_of}
 use Rattle.images.specs.Image.{fifteen}
 use Rattle.images.specs.Table.{numbers_in}
 use Rattle.images.specs.Reads.{read_rows, part}
 use Rattle.images.specs.Choice.{choice}
-use Rattle.images.specs.Writes.{written, lent_after}
-use Rattle.images.specs.declared.Block.{Block}
-use Rattle.blocks.specs.Table.{Record, reads, chooses, writes, most_bytes}
+use Rattle.images.specs.Writes.{Block, written, lent_after}
+use Rattle.streams.specs.Run.{Front, end, unknown, short, whole}
+use Rattle.blocks.specs.Table.{handed, Record, reads, chooses, writes, most_bytes}
 
 -- "decimal numbers .., separated by single spaces"
 abbrev pub field : ℕ → List ℕ
@@ -22,6 +23,11 @@ fields (n ∷ more) = field n ++ fields more
 -- ".., ended by a line feed"
 abbrev pub line_of : ℕ → List ℕ → List ℕ
 line_of first more = decimal first ++ fields more ++ text "\n"
+
+-- the number and the place that a line begins with
+abbrev pub told : Option Refusal → Verdict
+told None = accepted
+told (Some refusal) = record { number = number_of refusal; place = place_of refusal }
 
 -- "number, place, then the numbers of the body that the reader gave back"
 unfoldable pub reads_line : ℕ → List ℕ → List ℕ
@@ -43,7 +49,14 @@ writes_line lent holds blocks =
 abbrev pub line_for : Record → List ℕ
 line_for (reads block image) = reads_line block image
 line_for (chooses count) = chooses_line count
-line_for (writes lent holds blocks) = writes_line lent holds blocks
+line_for (writes lent holds blocks) = writes_line lent holds (map handed blocks)
+
+-- the line of what stands at the front of bytes, if that is a record
+abbrev pub line_at : Front Record → List ℕ
+line_at end = []
+line_at unknown = []
+line_at short = []
+line_at (whole r) = line_for r
 
 -- "prints the line `?`"
 unfoldable pub refusal_line : List ℕ

@@ -1,19 +1,33 @@
 -- The page of the bench programs, "blockline: images": its table of records.
 use Rattle.std.specs.Prelude.{Bool, false, ◌||◌, cond, ℕ, zero, suc, ◌+◌, ◌*◌, min}
-use Rattle.std.specs.Prelude.{List, [], ◌∷◌, ◌++◌, eqb, ltb, length, take, drop, replicate}
+use Rattle.std.specs.Prelude.{List, [], ◌∷◌, ◌++◌, map, eqb, ltb, length, take, drop, replicate}
+use Rattle.std.specs.Prelude.{None, Some, Result, Ok, Err}
 use Prim.Native.Char.{code}
-use Rattle.images.specs.declared.Block.{Block}
+use Rattle.images.specs.Writes.{Block}
 use Rattle.numbers.specs.Bytes.{byte, number, numbers}
 use Rattle.streams.specs.Run.{Front, end, unknown, short, whole}
-use Rattle.blocks.specs.declared.find.Found.{Found}
-use Rattle.blocks.specs.declared.find.Found.TheVariants.{End, Unknown, Short, Reads, Chooses, Writes}
+use Rattle.blocks.specs.declared.find.Record.{Record as Read}
+use Rattle.blocks.specs.declared.find.Call.{Call}
+use Rattle.blocks.specs.declared.find.Call.TheVariants.{Reads, Chooses, Writes}
+use Rattle.streams.specs.declared.Missing.{Missing}
+use Rattle.streams.specs.declared.Missing.TheVariants.{End, Unknown, Short}
+
+-- a block of W: its kind, its count, and the numbers of an array of 25
+pub record Given : Type 0 where
+  pub filled : Bool
+  pub count : ℕ
+  pub numbers : List ℕ
+
+-- as the writer is handed it: "An empty block has its count and numbers too; they mean nothing"
+abbrev pub handed : Given → Block
+handed b = cond b.filled (Some (record { count = b.count; numbers = b.numbers })) None
 
 -- the rows of the table: "R | block (1 byte), length .., so many bytes"; "A | count"; "W | how many bytes are lent .., what they hold (1
 -- byte), then for each of the 15 .. blocks: .."
 pub data Record : Type 0 where
   reads : ℕ → List ℕ → Record
   chooses : ℕ → Record
-  writes : ℕ → ℕ → List Block → Record
+  writes : ℕ → ℕ → List Given → Record
 
 -- "at most 2048, more is bad"
 abbrev pub most_bytes : ℕ
@@ -35,7 +49,7 @@ following count = min count 25
 abbrev pub block_size : ℕ → ℕ
 block_size count = 2 + 2 * following count
 
-unfoldable pub sizes_of : List Block → ℕ
+unfoldable pub sizes_of : List Given → ℕ
 sizes_of [] = 0
 sizes_of (b ∷ blocks) = block_size b.count + sizes_of blocks
 
@@ -57,9 +71,8 @@ module _ (bytes : List ℕ) where
   bad_kind zero = false
   bad_kind (suc k) = bad_kind k || ltb 1 (byte (place_of k) bytes)
 
-  -- The block whose bytes begin at this place. "An empty block has its count and numbers too; they mean nothing", nor do the zeros behind
-  -- fewer numbers than its array holds.
-  unfoldable pub block_at : ℕ → Block
+  -- The block whose bytes begin at this place. The zeros behind fewer numbers than its array holds mean nothing.
+  unfoldable pub block_at : ℕ → Given
   block_at place =
       let given : ℕ = following (byte (place + 1) bytes) in
       record {
@@ -69,7 +82,7 @@ module _ (bytes : List ℕ) where
       }
 
   -- the first k blocks
-  unfoldable pub blocks_of : ℕ → List Block
+  unfoldable pub blocks_of : ℕ → List Given
   blocks_of zero = []
   blocks_of (suc k) = blocks_of k ++ (block_at (place_of k) ∷ [])
 
@@ -105,12 +118,14 @@ module _ (bytes : List ℕ) where
       (cond (eqb letter (code "A")) chooses_front
       (cond (eqb letter (code "W")) writes_front unknown)))
 
--- What the reader hands on. No enum of the code holds an array, so of an image it tells how many bytes it has, and of W how many the record
--- has.
-abbrev pub found : Front Record → Found
-found end = End
-found unknown = Unknown
-found short = Short
-found (whole (reads block image)) = Reads block (length image)
-found (whole (chooses count)) = Chooses count
-found (whole (writes lent holds blocks)) = Writes lent holds (size_of (writes lent holds blocks))
+-- what the reader hands on: the call that a record asks for, an image by how many bytes the record has; or why there is none
+abbrev pub asked : Record → Call
+asked (reads block image) = Reads block
+asked (chooses count) = Chooses count
+asked (writes lent holds blocks) = Writes lent holds (map handed blocks)
+
+abbrev pub found : Front Record → Result Read Missing
+found end = Err End
+found unknown = Err Unknown
+found short = Err Short
+found (whole r) = Ok (record { call = asked r; size = size_of r })

@@ -1,106 +1,97 @@
 // What stands at the front of the bytes: the rows of the page's table.
-ghost use Rattle.std.specs.Prelude.{◌≡◌};
-ghost use Rattle.blocks.specs.Table.{place_of, bad_kind, reads_front, chooses_front, writes_front, front, found};
+ghost use Rattle.std.specs.Prelude.{◌≡◌, cond, ltb, length, Ok, Err};
+ghost use Rattle.numbers.specs.Bytes.{number};
+ghost use Rattle.streams.specs.declared.Missing.TheVariants.{Unknown, Short};
+ghost use Rattle.blocks.specs.Table.{most_bytes, reads_front, chooses_front, writes_front, front, found};
 
-use crate::handed::block_size;
+use crate::handed::blocks_of;
 use crate::{CHOOSES_SIZE, HEAD_SIZE, MOST_BYTES};
-use images::BLOCKS;
+use images::{BLOCKS, Block};
 use numbers::{byte_at, number_at};
+use streams::Missing;
 
-// Of R it tells the block and how many bytes the image has, of A the count, of W how many bytes are lent, what they hold, and how many
-// bytes the record has.
+// What a record asks for: of R the block; of A the count; of W how many bytes are lent, what they hold, and the blocks.
 #[derive(Clone, Copy)]
-pub(crate) enum Found {
-    End,
-    Unknown,
-    Short,
-    Reads(u8, usize),
+pub(crate) enum Call {
+    Reads(u8),
     Chooses(u16),
-    Writes(usize, u8, usize),
+    Writes(usize, u8, [Block; BLOCKS]),
 }
 
-// What a walk over the blocks of W has met: a kind that is bad, and where the blocks end.
+// A whole record, and how many bytes it has: of R the image is what stands behind its head.
 #[derive(Clone, Copy)]
-struct Walked {
-    bad: bool,
-    place: usize,
+pub(crate) struct Record {
+    pub(crate) call: Call,
+    pub(crate) size: usize,
 }
 
-fn reads_front(bytes: &[u8]) -> Found
+// So many bytes are there.
+fn enough(bytes: &[u8], size: usize) -> Result<(), Missing>
+    ensures { result ≡ cond (ltb (length bytes.now) size) (Err Short) (Ok tt) }
+{
+    if bytes.len() < size {
+        Err(Missing::Short)
+    } else {
+        Ok(())
+    }
+}
+
+// A number of bytes, of which there are not too many.
+fn few_at(bytes: &[u8], at: usize) -> Result<usize, Missing>
+    ensures { result ≡ cond (ltb most_bytes (number at bytes.now)) (Err Unknown) (Ok (number at bytes.now)) }
+{
+    let size = number_at(bytes, at) as usize;
+    if MOST_BYTES < size {
+        Err(Missing::Unknown)
+    } else {
+        Ok(size)
+    }
+}
+
+#[tactic(auto, unfolding(crate::specs::Table::reads_front))]
+fn reads_front(bytes: &[u8]) -> Result<Record, Missing>
     ensures { result ≡ found (reads_front bytes.now) }
 {
-    if bytes.len() < HEAD_SIZE {
-        return Found::Short;
-    }
-    let size = number_at(bytes, 2) as usize;
-    if MOST_BYTES < size {
-        return Found::Unknown;
-    }
-    if bytes.len() < HEAD_SIZE + size {
-        return Found::Short;
-    }
-    Found::Reads(byte_at(bytes, 1), size)
+    enough(bytes, HEAD_SIZE)?;
+    let size = HEAD_SIZE + few_at(bytes, 2)?;
+    enough(bytes, size)?;
+    let call = Call::Reads(byte_at(bytes, 1));
+    Ok(Record { call, size })
 }
 
-fn chooses_front(bytes: &[u8]) -> Found
+#[tactic(auto, unfolding(crate::specs::Table::chooses_front))]
+fn chooses_front(bytes: &[u8]) -> Result<Record, Missing>
     ensures { result ≡ found (chooses_front bytes.now) }
 {
-    if bytes.len() < CHOOSES_SIZE {
-        return Found::Short;
-    }
-    Found::Chooses(number_at(bytes, 1))
+    enough(bytes, CHOOSES_SIZE)?;
+    let call = Call::Chooses(number_at(bytes, 1));
+    Ok(Record {
+        call,
+        size: CHOOSES_SIZE,
+    })
 }
 
-fn walk(bytes: &[u8]) -> Walked
-    ensures { (result.bad ≡ bad_kind bytes.now 15) × (result.place ≡ place_of bytes.now 15) }
-{
-    let mut bad = false;
-    let mut place = HEAD_SIZE;
-    let mut k: usize = 0;
-    while k < BLOCKS {
-        bad = bad | (1 < byte_at(bytes, place));
-        place += block_size(byte_at(bytes, place + 1));
-        k += 1;
-    }
-    Walked { bad, place }
-}
-
-fn writes_front(bytes: &[u8]) -> Found
+#[tactic(auto, using(crate::proofs::Places::sizes_are), unfolding(crate::specs::Table::writes_front))]
+fn writes_front(bytes: &[u8]) -> Result<Record, Missing>
     ensures { result ≡ found (writes_front bytes.now) }
 {
-    if bytes.len() < HEAD_SIZE {
-        return Found::Short;
-    }
-    let lent = number_at(bytes, 1) as usize;
-    if MOST_BYTES < lent {
-        return Found::Unknown;
-    }
-    let walked = walk(bytes);
-    if walked.bad {
-        return Found::Unknown;
-    }
-    let size = walked.place;
-    if bytes.len() < size {
-        return Found::Short;
-    }
-    Found::Writes(lent, byte_at(bytes, 3), size)
+    enough(bytes, HEAD_SIZE)?;
+    let lent = few_at(bytes, 1)?;
+    let (blocks, size) = blocks_of(bytes)?;
+    enough(bytes, size)?;
+    let call = Call::Writes(lent, byte_at(bytes, 3), blocks);
+    Ok(Record { call, size })
 }
 
-pub(crate) fn find(bytes: &[u8]) -> Found
+#[tactic(auto, unfolding(crate::specs::Table::front))]
+pub(crate) fn find(bytes: &[u8]) -> Result<Record, Missing>
     ensures { result ≡ found (front bytes.now) }
 {
-    if bytes.len() == 0 {
-        return Found::End;
+    let letter = *bytes.first().ok_or(Missing::End)?;
+    match letter {
+        b'R' => reads_front(bytes),
+        b'A' => chooses_front(bytes),
+        b'W' => writes_front(bytes),
+        _ => Err(Missing::Unknown),
     }
-    let letter = byte_at(bytes, 0);
-    if letter == b'R' {
-        return reads_front(bytes);
-    }
-    if letter == b'A' {
-        return chooses_front(bytes);
-    }
-    if letter == b'W' {
-        return writes_front(bytes);
-    }
-    Found::Unknown
 }

@@ -1,76 +1,48 @@
 // The blocks that W hands to the writer, read off its bytes.
-ghost use Rattle.std.specs.Prelude.{◌≡◌, ◌++◌, ◌≤◌, drop, replicate};
-ghost use Rattle.numbers.specs.Bytes.{numbers};
-ghost use Rattle.blocks.specs.Table.{following, block_size, block_at, blocks_of};
+ghost use Rattle.std.specs.Prelude.{◌≡◌, ◌≤◌, cond, map, Ok, Err};
+ghost use Rattle.streams.specs.declared.Missing.TheVariants.{Unknown};
+ghost use Rattle.blocks.specs.Table.{block_size, place_of, bad_kind, block_at, handed, blocks_of};
 
 use crate::HEAD_SIZE;
-use images::{BLOCKS, Block, MOST_NUMBERS};
-use numbers::{byte_at, number_at};
+use images::{BLOCKS, Block, Filled, MOST_NUMBERS};
+use numbers::{byte_at, numbers_at};
+use streams::Missing;
 
-// How many numbers follow a count.
-fn following(count: u8) -> usize
-    ensures { result ≡ following count }
-{
-    let count = count as usize;
-    if count < MOST_NUMBERS {
-        count
-    } else {
-        MOST_NUMBERS
-    }
-}
+// The byte of the record that says filled; that of an empty block is 0, and more is bad.
+const FILLED: u8 = 1;
 
-pub(crate) fn block_size(count: u8) -> usize
+// Kind, count, and two bytes for each number that follows.
+fn block_size(count: u8) -> usize
     ensures { (result ≡ block_size count) × (result ≤ 52) }
 {
-    2 + 2 * following(count)
+    2 + 2 * (count as usize).min(MOST_NUMBERS)
 }
 
-// So many numbers, one after the other, in an array that is blank behind them.
-fn numbers_of(bytes: &[u8], first: usize, count: usize) -> [u16; MOST_NUMBERS]
-    requires { (first ≤ 65535) × (count ≤ 25) }
-    ensures { result ≡ numbers count first bytes.now ++ drop count (replicate 25 0) }
-{
-    let mut numbers = [0u16; MOST_NUMBERS];
-    let mut i: usize = 0;
-    while i < count {
-        numbers[i] = number_at(bytes, first + 2 * i);
-        i += 1;
-    }
-    numbers
-}
-
+#[tactic(auto, unfolding(crate::specs::Table::block_at))]
 fn block_at(bytes: &[u8], place: usize) -> Block
     requires { place ≤ 65533 }
-    ensures { result ≡ block_at bytes.now place }
+    ensures { result ≡ handed (block_at bytes.now place) }
 {
-    let kind = byte_at(bytes, place);
     let count = byte_at(bytes, place + 1);
-    let numbers = numbers_of(bytes, place + 2, following(count));
-    Block {
-        filled: kind == 1,
-        count,
-        numbers,
-    }
+    let numbers = numbers_at(bytes, place + 2, count as usize, 0);
+    (byte_at(bytes, place) == FILLED).then_some(Filled { count, numbers })
 }
 
-pub(crate) fn blocks_of(bytes: &[u8]) -> [Block; BLOCKS]
-    ensures { result ≡ blocks_of bytes.now 15 }
+// All of them, and where they end, unless the kind of one is bad.
+#[tactic(auto, unfolding(crate::specs::Table::place_of, crate::specs::Table::bad_kind, crate::specs::Table::blocks_of))]
+pub(crate) fn blocks_of(bytes: &[u8]) -> Result<([Block; BLOCKS], usize), Missing>
+    ensures { result
+        ≡ cond (bad_kind bytes.now 15) (Err Unknown)
+        (Ok (map handed (blocks_of bytes.now 15), place_of bytes.now 15)) }
 {
-    let numbers = [0u16; MOST_NUMBERS];
-    let blank = Block {
-        filled: false,
-        count: 0,
-        numbers,
-    };
-    let mut blocks = [blank; BLOCKS];
+    let mut blocks = [None; BLOCKS];
     let mut place = HEAD_SIZE;
-    let mut k: usize = 0;
-    while k < BLOCKS {
-        let block = block_at(bytes, place);
-        let count = block.count;
-        blocks[k] = block;
-        place += block_size(count);
-        k += 1;
+    for block in &mut blocks {
+        if FILLED < byte_at(bytes, place) {
+            return Err(Missing::Unknown);
+        }
+        *block = block_at(bytes, place);
+        place += block_size(byte_at(bytes, place + 1));
     }
-    blocks
+    Ok((blocks, place))
 }

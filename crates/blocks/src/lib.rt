@@ -4,13 +4,15 @@
 mod find;
 mod handed;
 mod line;
+mod program;
 mod steps;
 
 ghost use Rattle.std.specs.Prelude.{◌≡◌, ◌≤◌, length};
-ghost use Rattle.streams.specs.Run.{run, output_after};
-ghost use Rattle.blocks.specs.Blockline.{blockline, ran_of};
+ghost use Rattle.streams.specs.Run.{run, output_after, ran_of};
+ghost use Rattle.blocks.specs.Blockline.{blockline};
 
-use steps::{resting, step};
+pub use program::Blockline;
+use streams::Ran;
 
 // The most bytes of an image, and the most that are lent.
 pub(crate) const MOST_BYTES: usize = 2048;
@@ -29,33 +31,13 @@ pub const INPUT_SIZE: usize = 3072;
 
 pub const OUTPUT_SIZE: usize = 4194304;
 
-// What a run has come to: how many bytes of the input it took and of the output it wrote, and whether a line `?` ended it.
-#[derive(Clone, Copy)]
-pub struct Ran {
-    pub taken: usize,
-    pub written: usize,
-    pub ended: bool,
-}
-
 // Takes whole records from the front of the input and writes their lines one after the other, until the input holds no whole record
 // or the output has no room for a line. `closed` says that no more input will come.
-pub fn run(input: &[u8], closed: bool, output: &mut [u8]) -> Ran
+pub fn run(input: &[u8], closed: bool, output: &mut [u8]) -> Ran<()>
     ensures result { result ≡ ran_of (run blockline closed (length output.old) input.now tt) }
     ensures lent { output.new
         ≡ output_after (run blockline closed (length output.old) input.now tt) output.old }
     ensures within { (result.taken ≤ length input.now) × (result.written ≤ length output.old) }
 {
-    let mut ran = resting();
-    loop {
-        let taken = ran.taken;
-        let written = ran.written;
-        let mut one = step(&input[taken..], closed, &mut output[written..]);
-        let last = one.taken == 0;
-        one.taken = taken + one.taken;
-        one.written = written + one.written;
-        ran = one;
-        if last {
-            return ran;
-        }
-    }
+    streams::run::<Blockline>((), input, closed, output)
 }

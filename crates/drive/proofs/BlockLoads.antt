@@ -1,9 +1,17 @@
 -- The block load by what the reader says: of a block that is found it is the load of its numbers, but for what a refusal leaves; else the
 -- reader's own refusal.
-use Rattle.std.proofs.Common.{◌≡◌, ℕ, ◌/◌, true, cond, ◌||◌, eqb, List, length, ne_eqb}
+use Rattle.std.proofs.Common.{◌≡◌, ℕ, ◌/◌, min, Bool, true, false, cond, ◌||◌, T, eqb, List, ◌++◌, length, drop, replicate, ne_eqb}
+use Rattle.std.proofs.Common.{append-nil, refl, sym, ◌∙◌, Result, Ok, Err, is_err}
+use mathlib.Core.Path.{subst}
+use borrow.Author.Tests.{eqb-true}
+use Rattle.numbers.specs.Bytes.{numbers}
+use Rattle.numbers.proofs.Bytes.{length-numbers}
 use Rattle.states.specs.States.{is}
 use Rattle.settings.specs.Settings.{setting_count, all_settings, meant}
-use Rattle.verdicts.specs.Table.{verdict}
+use Rattle.settings.proofs.Meant.{meant_of_24, meant_of_25}
+use Rattle.verdicts.specs.Table.{verdict, verdict_of}
+use Rattle.verdicts.specs.declared.Refusal.{Refusal}
+use Rattle.verdicts.proofs.OneToOne.{accepts}
 use Rattle.verdicts.proofs.Passed.{behind_passed, before_later}
 use Rattle.images.specs.Image.{fifteen}
 use Rattle.images.specs.Reads.{read_rows, found_of, part}
@@ -33,3 +41,24 @@ pub counts : (image : List ℕ) (block : ℕ) → (verdict (read_rows fifteen im
     → (eqb (length (part fifteen image block) / 2) setting_count || eqb (length (part fifteen image block) / 2) all_settings) ≡ true
 unfolding found_of
 counts image block none = found_counts fifteen image block none
+
+-- and read with threes behind them they are the settings that they mean
+pub settings_are : (count : ℕ) (body : List ℕ) → (eqb count setting_count || eqb count all_settings) ≡ true
+    → numbers (min count 25) 0 body ++ drop (min count 25) (replicate 25 3) ≡ meant (numbers count 0 body)
+settings_are count body either = go (eqb count setting_count) refl either
+  where
+    go : (few : Bool) → eqb count setting_count ≡ few → (few || eqb count all_settings) ≡ true
+        → numbers (min count 25) 0 body ++ drop (min count 25) (replicate 25 3) ≡ meant (numbers count 0 body)
+    go true e all = rw (eqb-true count setting_count e) (sym (meant_of_24 (numbers 24 0 body) (length-numbers 24 0 body)))
+    go false e all =
+        rw (eqb-true count all_settings all) (append-nil _ ∙ sym (meant_of_25 (numbers 25 0 body) (length-numbers 25 0 body)))
+
+-- what the reader says of a block, by the result that it gives back
+pub refused : (told : Result (Unit {0}) Refusal) → is_err told ≡ true → ((verdict_of told).number ≡ 0 → ⊥)
+refused told refuses none =
+    let refuses : T (is_err told) = rw refuses tt in
+    absurd (rw (accepts told none) at refuses)
+
+pub found : (told : Result (Unit {0}) Refusal) → is_err told ≡ false → (verdict_of told).number ≡ 0
+found (Ok u) passes = refl
+found (Err refusal) passes = absurd (subst T passes tt)

@@ -7,7 +7,7 @@ use Rattle.settings.specs.Settings.{meant}
 use Rattle.fields.specs.declared.Cycle.{Cycle}
 use Rattle.fields.specs.declared.Tick.{Tick}
 use Rattle.verdicts.specs.Table.{verdict}
-use Rattle.verdicts.specs.declared.Verdict.{Verdict}
+use Rattle.verdicts.specs.Table.{Verdict}
 use Rattle.images.specs.Image.{fifteen}
 use Rattle.images.specs.Reads.{is_read}
 use Rattle.drive.specs.Answer.{reply_telling, reply as replied}

@@ -11,9 +11,6 @@ power_up κs given r s p q = same (p ∙⁻¹ q) refl
 pub load : OneReply contracts.Drive.load.ended promises.Drive.load.Reads.Post
 load κs given r s p q = same (p ∙⁻¹ q) refl
 
-pub load_settings : OneReply contracts.Drive.load_settings.ended promises.Drive.load_settings.Reads.Post
-load_settings κs given r s p q = same (p ∙⁻¹ q) refl
-
 pub cycle : OneReply contracts.Drive.cycle.ended promises.Drive.cycle.Reads.Post
 cycle κs given r s p q = same (p ∙⁻¹ q) refl
 
@@ -26,5 +23,8 @@ answered κs given r s p q = same (p ∙⁻¹ q) refl
 pub load_block : OneReply contracts.Drive.load_block.ended promises.Drive.load_block.Reads.Post
 load_block κs given r s p q = same (p ∙⁻¹ q) refl
 
-pub letter : OneReply contracts.answer.Judged.letter.ended promises.answer.Judged.letter.Reads.Post
+pub call : OneReply contracts.Drive.call.ended promises.Drive.call.Reads.Post
+call κs given r s p q = same (p ∙⁻¹ q) refl
+
+pub letter : OneReply contracts.answer.Answer.letter.ended promises.answer.Answer.letter.Reads.Post
 letter κs given r s p q = same (p ∙⁻¹ q) refl

@@ -1,10 +1,10 @@
 -- What a call that settles by its verdict replies and leaves: and so no cycle and no tick changes a setting or the sensors.
-use Rattle.std.proofs.Common.{◌≡◌, ℕ, Bool, false, eqb, refl}
+use Rattle.std.proofs.Common.{◌≡◌, ℕ, Bool, false, eqb, refl, Option, None}
 use lib.Ieee.Bits.{is_false}
 use mir.Facts.{eqb_yes}
 use Rattle.numbers.proofs.Tests.{by_test}
 use Rattle.verdicts.specs.Table.{verdict}
-use Rattle.verdicts.specs.declared.Verdict.{Verdict}
+use Rattle.verdicts.specs.Table.{Verdict}
 use Rattle.fields.specs.declared.Cycle.{Cycle}
 use Rattle.fields.specs.declared.Tick.{Tick}
 use Rattle.motor.specs.declared.Watched.{Watched}
@@ -15,13 +15,12 @@ use Rattle.drive.specs.Refusals.{cycle_rows, tick_rows}
 use Rattle.drive.specs.Calls.{settle, settle_telling, judged_by, cycled, cycle}
 use Rattle.drive.specs.Ticks.{armed_by, nth, watch, raised, chosen, moved, ticked, tick}
 use Rattle.drive.specs.declared.Drive.{Drive}
-use Rattle.drive.specs.declared.answer.Judged.{Judged}
-use Rattle.drive.specs.declared.answer.Judged.TheVariants.{Nothing}
+use Rattle.hall.specs.declared.fate.Fate.{Fate}
 use Rattle.drive.specs.declared.answer.Reply.{Reply}
 
 -- a call that settles by its verdict, with whatever it judged: what holds of its reply if it is accepted, and if it is refused, holds of it
 pub settles_telling :
-    (P : Reply → Type 0) (judged : Judged) (v : Verdict) (next left : Drive)
+    (P : Reply → Type 0) (judged : Option Fate) (v : Verdict) (next left : Drive)
     → (v.number ≡ 0 → P (reply_telling judged 0 0 next))
     → (eqb v.number 0 ≡ false → P (reply v.number v.place left))
     → P (settle_telling judged v next left)
@@ -34,11 +33,11 @@ pub settles :
     → (v.number ≡ 0 → P (reply 0 0 next))
     → (eqb v.number 0 ≡ false → P (reply v.number v.place left))
     → P (settle v next left)
-settles P v next left accepted refused = settles_telling P Nothing v next left accepted refused
+settles P v next left accepted refused = settles_telling P None v next left accepted refused
 
 -- so of the state that it leaves
 pub settled :
-    (P : Drive → Type 0) (judged : Judged) (v : Verdict) (next left : Drive)
+    (P : Drive → Type 0) (judged : Option Fate) (v : Verdict) (next left : Drive)
     → (v.number ≡ 0 → P next)
     → P left
     → P (settle_telling judged v next left).drive
@@ -47,7 +46,7 @@ settled P judged v next left accepted refused =
 
 -- a reply with another number than 0 shows the state that the refusal leaves
 pub refusal :
-    (judged : Judged) (v : Verdict) (next left : Drive)
+    (judged : Option Fate) (v : Verdict) (next left : Drive)
     → ((settle_telling judged v next left).answer.number ≡ 0 → ⊥)
     → settle_telling judged v next left ≡ reply v.number v.place left
 unfolding answer_telling
@@ -79,6 +78,6 @@ cycle_keeps_settings d c =
 pub tick_keeps_settings : (d : Drive) (t : Tick) → AsLoaded (tick d t).drive d
 unfolding tick ticked
 tick_keeps_settings d t =
-    settled (λ (after : Drive). AsLoaded after d) Nothing (verdict (tick_rows d t)) (ticked d t) d
+    settled (λ (after : Drive). AsLoaded after d) None (verdict (tick_rows d t)) (ticked d t) d
     (λ none. moved_as_loaded d t (watch d t) (raised d t) (armed_by d t) (nth d) (chosen d t))
     (refl, refl)

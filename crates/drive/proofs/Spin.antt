@@ -11,7 +11,7 @@ use Rattle.moves.specs.declared.Move.{Move}
 use Rattle.moves.specs.declared.Move.TheVariants.{Stay, Enter, Measure, Clear, Retry}
 use Rattle.moves.proofs.Spin.{same_size, spun, move_same}
 use Rattle.verdicts.specs.Table.{verdict}
-use Rattle.verdicts.specs.declared.Verdict.{Verdict}
+use Rattle.verdicts.specs.Table.{Verdict}
 use Rattle.drive.specs.Causes.{causes}
 use Rattle.drive.specs.Answer.{answer, answer_telling, reply}
 use Rattle.drive.specs.Refusals.{tick_rows}

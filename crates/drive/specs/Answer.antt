@@ -1,5 +1,5 @@
 -- Document 01, "What the supervisor covers" and "Gates": what an answer shows of the state; 02, M-105: and of a cycle's sample.
-use Rattle.std.specs.Prelude.{ℕ, cond, ℤ, pos, int_div}
+use Rattle.std.specs.Prelude.{ℕ, cond, ℤ, pos, int_div, Option, Some, None}
 use Prim.Native.Char.{code}
 use Rattle.numbers.specs.Limit.{limit}
 use Rattle.faults.specs.Word.{bit, any}
@@ -10,8 +10,6 @@ use Rattle.states.specs.declared.State.{State}
 use Rattle.drive.specs.Flags.{alive}
 use Rattle.drive.specs.declared.Drive.{Drive}
 use Rattle.drive.specs.declared.answer.Answer.{Answer}
-use Rattle.drive.specs.declared.answer.Judged.{Judged}
-use Rattle.drive.specs.declared.answer.Judged.TheVariants.{Nothing, Sample}
 use Rattle.drive.specs.declared.answer.Reply.{Reply}
 
 -- "3 gives charge (1); 4, 6, 7, 8, 9 give drive (2); others off"
@@ -40,13 +38,13 @@ letter_of Back = code "B"
 letter_of Dead = code "D"
 letter_of Stray = code "X"
 
-abbrev pub letter : Judged → ℕ
-letter (Sample fate) = letter_of fate
-letter Nothing = code "."
+abbrev pub letter : Option Fate → ℕ
+letter (Some fate) = letter_of fate
+letter None = code "."
 
 -- "number, place, state, gate, live word, speed reference, position, angle, two offsets, retries used"; 02, M-105: "Cycle passes the name
 -- on in its answer"
-unfoldable pub answer_telling : Judged → ℕ → ℕ → Drive → Answer
+unfoldable pub answer_telling : Option Fate → ℕ → ℕ → Drive → Answer
 answer_telling judged number place d =
     record {
       number = number;
@@ -63,12 +61,12 @@ answer_telling judged number place d =
     }
 
 -- "Each hands the next drive state back beside its answer"
-abbrev pub reply_telling : Judged → ℕ → ℕ → Drive → Reply
+abbrev pub reply_telling : Option Fate → ℕ → ℕ → Drive → Reply
 reply_telling judged number place d = record { drive = d; answer = answer_telling judged number place d }
 
 -- and where no sample was judged
 abbrev pub answer : ℕ → ℕ → Drive → Answer
-answer = answer_telling Nothing
+answer = answer_telling None
 
 abbrev pub reply : ℕ → ℕ → Drive → Reply
-reply = reply_telling Nothing
+reply = reply_telling None

@@ -5,6 +5,8 @@ use Rattle.drive.specs.Calls.{load, cycle}
 use Rattle.drive.specs.Blocks.{block_load}
 use Rattle.drive.specs.Ticks.{tick}
 use Rattle.drive.specs.declared.Drive.{Drive}
+use Rattle.drive.specs.declared.call.Call.{Call as Asked}
+use Rattle.drive.specs.declared.call.Call.TheVariants as code
 use Rattle.fields.specs.declared.Cycle.{Cycle}
 use Rattle.fields.specs.declared.Tick.{Tick}
 use Rattle.drive.specs.declared.answer.Reply.{Reply}
@@ -21,3 +23,9 @@ reply d (loads numbers) = load d numbers
 reply d (cycles fields) = cycle d fields
 reply d (ticks fields) = tick d fields
 reply d (block_loads image block) = block_load d image block
+
+-- the call that the code names: three of the four, since a block load lends an image
+abbrev pub asked : Asked → Call
+asked (code.Load settings) = loads settings
+asked (code.Cycle fields) = cycles fields
+asked (code.Tick fields) = ticks fields

@@ -1,5 +1,5 @@
 -- Document 01: power-up, load and cycle. "Each hands the next drive state back beside its answer".
-use Rattle.std.specs.Prelude.{ℕ, Bool, false, cond, ◌&&◌, List, take, replicate, ◌==◌, nat_lt}
+use Rattle.std.specs.Prelude.{ℕ, Bool, false, cond, ◌&&◌, List, take, replicate, ◌==◌, nat_lt, Option, Some, None}
 use Rattle.std.specs.Int.{w16}
 use Rattle.std.proofs.Common.{to_z}
 use Rattle.numbers.specs.Count.{up}
@@ -17,14 +17,13 @@ use Rattle.fields.specs.declared.Cycle.{Cycle}
 use Rattle.motor.specs.Counts.{at_rest}
 use Rattle.motor.specs.declared.Run.{Run}
 use Rattle.verdicts.specs.Table.{verdict}
-use Rattle.verdicts.specs.declared.Verdict.{Verdict}
+use Rattle.verdicts.specs.Table.{Verdict}
 use Rattle.drive.specs.Offsets.{unmeasured, added}
 use Rattle.drive.specs.Refusals.{load_rows, cycle_rows}
 use Rattle.drive.specs.Answer.{reply, reply_telling}
 use Rattle.drive.specs.declared.Drive.{Drive}
 use Rattle.drive.specs.declared.offsets.Offsets.{Offsets}
-use Rattle.drive.specs.declared.answer.Judged.{Judged}
-use Rattle.drive.specs.declared.answer.Judged.TheVariants.{Nothing, Sample}
+use Rattle.hall.specs.declared.fate.Fate.{Fate}
 use Rattle.drive.specs.declared.answer.Reply.{Reply}
 
 -- 02, M-101: "Setting 25 chooses 2 or 3 sensors"
@@ -76,12 +75,12 @@ becomes d state hall flags cycles ticks offsets run armed retries =
 -- What a call comes to: the next state, or the number and place of its refusal with the state that the refusal leaves.
 -- "A refusal changes no state ..; its other fields show the unchanged state.": each call below leaves the state that it was given.
 -- A refused call has judged no sample.
-abbrev pub settle_telling : Judged → Verdict → (next left : Drive) → Reply
+abbrev pub settle_telling : Option Fate → Verdict → (next left : Drive) → Reply
 settle_telling judged v next left = cond (v.number == 0) (reply_telling judged 0 0 next) (reply v.number v.place left)
 
 -- nor has a load or a tick
 abbrev pub settle : Verdict → (next left : Drive) → Reply
-settle = settle_telling Nothing
+settle = settle_telling None
 
 -- "An accepted load gives STOP and clears everything else to power-up values"; "keeps its 24 settings as loaded", and beside them the
 -- sensors that setting 25 chooses
@@ -115,8 +114,8 @@ unfoldable pub cycled : Drive → Cycle → Drive
 cycled d c = cycled_by d c (sample d c)
 
 -- 02, M-105: "The sample judgement must name it ..; Cycle passes the name on in its answer"
-abbrev pub judged_by : Drive → Cycle → Judged
-judged_by d c = Sample (sample d c).fate
+abbrev pub judged_by : Drive → Cycle → Option Fate
+judged_by d c = Some (sample d c).fate
 
 unfoldable pub cycle : Drive → Cycle → Reply
 cycle d c = settle_telling (judged_by d c) (verdict (cycle_rows d c)) (cycled d c) d

@@ -1,5 +1,6 @@
 // What a call answers.
-ghost use Rattle.std.specs.Prelude.{◌≡◌, if◌then◌else◌};
+ghost use Rattle.std.specs.Prelude.{◌≡◌};
+ghost use Rattle.verdicts.specs.Table.{verdict_of};
 ghost use Rattle.drive.specs.Answer.{letter_of, letter, gate_of, gate, reported, answer, answer_telling, reply_telling};
 ghost use Rattle.drive.specs.Calls.{settle, settle_telling};
 
@@ -8,15 +9,10 @@ use crate::causes::alive;
 use crate::offsets::Pair;
 use hall::fate::Fate;
 use states::State;
-use verdicts::Verdict;
+use verdicts::Refusal;
 
-// What became of the sample, in the answer to an accepted cycle; any other answer tells of no sample.
-#[derive(Clone, Copy)]
-pub enum Judged {
-    Nothing,
-    Sample(Fate),
-}
-
+// Number, place, state and gate are bytes, as the paper numbers them: whoever makes an answer up may go too high, and the line call
+// refuses that.
 #[derive(Clone, Copy)]
 pub struct Answer {
     pub number: u8,
@@ -29,7 +25,8 @@ pub struct Answer {
     pub angle: i16,
     pub offsets: Pair,
     pub retries: u32,
-    pub judged: Judged,
+    // What became of the sample, in the answer to an accepted cycle; any other answer tells of no sample.
+    pub judged: Option<Fate>,
 }
 
 #[derive(Clone, Copy)]
@@ -38,6 +35,7 @@ pub struct Reply {
     pub answer: Answer,
 }
 
+// A letter of the report line, which `hall` does not know: so it is no `From` beside `Fate`.
 fn letter_of(fate: Fate) -> u8
     ensures { result ≡ letter_of fate }
 {
@@ -51,37 +49,39 @@ fn letter_of(fate: Fate) -> u8
     }
 }
 
-impl Judged {
-    // The paper's letter for it, and a full stop for no sample.
+impl Answer {
+    // The paper's letter of what became of the sample, and a full stop for no sample.
     pub fn letter(self) -> u8
-        ensures { result ≡ letter self }
+        ensures { result ≡ letter self.judged }
     {
-        match self {
-            Judged::Nothing => b'.',
-            Judged::Sample(fate) => letter_of(fate),
-        }
+        self.judged.map_or(b'.', letter_of)
     }
-}
-
-// A choice by a test: the code's form of the definitions' `cond`, so that the two read alike.
-fn pick_u8(test: bool, yes: u8, no: u8) -> u8
-    ensures { result ≡ (if test then yes else no) }
-{
-    if test { yes } else { no }
 }
 
 fn gate_of(state: State) -> u8
     ensures { result ≡ gate_of state }
 {
-    pick_u8(state.number() == 3, 1, pick_u8(state.is_turning(), 2, 0))
+    if state == State::BtsCharge {
+        1
+    } else if state.is_turning() {
+        2
+    } else {
+        0
+    }
 }
 
 fn gate(state: State, live: u16) -> u8
     ensures { result ≡ gate state live }
 {
-    let shut = pick_u8(live != 0, 0, gate_of(state));
-    let braked = pick_u8(live / 2 % 2 == 1, 3, shut);
-    pick_u8(live % 2 == 1, 0, braked)
+    if live % 2 == 1 {
+        0
+    } else if live / 2 % 2 == 1 {
+        3
+    } else if live != 0 {
+        0
+    } else {
+        gate_of(state)
+    }
 }
 
 fn reported(reference: i32) -> i16
@@ -90,26 +90,22 @@ fn reported(reference: i32) -> i16
     numbers::limited(reference / 2048)
 }
 
-// What the state shows under a number and a place, with what was judged.
+// What the state shows under a number and a place, with what was judged. They stay two bytes, since `answered` takes any.
 #[tactic(auto, unfolding(crate::specs::Answer::answer_telling))]
-fn telling(judged: Judged, drive: Drive, number: u8, place: u8) -> Answer
+fn telling(judged: Option<Fate>, drive: Drive, number: u8, place: u8) -> Answer
     ensures { result ≡ answer_telling judged number place drive }
 {
-    let state = drive.state;
-    let run = drive.run;
-    let offsets = drive.offsets.value;
-    let settings = drive.settings;
-    let live = alive(settings, drive.flags);
+    let live = alive(drive.settings, drive.flags);
     Answer {
         number,
         place,
-        state: state.number(),
-        gate: gate(state, live),
+        state: drive.state.number(),
+        gate: gate(drive.state, live),
         live,
-        reference: reported(run.reference),
+        reference: reported(drive.run.reference),
         position: drive.hall.position,
         angle: drive.hall.angle,
-        offsets,
+        offsets: drive.offsets.value,
         retries: drive.retries,
         judged,
     }
@@ -119,46 +115,36 @@ fn telling(judged: Judged, drive: Drive, number: u8, place: u8) -> Answer
 pub fn answered(drive: Drive, number: u8, place: u8) -> Answer
     ensures { result ≡ answer number place drive }
 {
-    telling(Judged::Nothing, drive, number, place)
+    telling(None, drive, number, place)
 }
 
-fn replied(judged: Judged, drive: Drive, number: u8, place: u8) -> Reply
+fn replied(judged: Option<Fate>, drive: Drive, number: u8, place: u8) -> Reply
     ensures { result ≡ reply_telling judged number place drive }
 {
-    let answer = telling(judged, drive, number, place);
-    Reply { drive, answer }
-}
-
-pub(crate) fn pick_drive(test: bool, yes: Drive, no: Drive) -> Drive
-    ensures { result ≡ (if test then yes else no) }
-{
-    if test { yes } else { no }
-}
-
-pub(crate) fn pick_judged(test: bool, yes: Judged, no: Judged) -> Judged
-    ensures { result ≡ (if test then yes else no) }
-{
-    if test { yes } else { no }
+    Reply {
+        drive,
+        answer: telling(judged, drive, number, place),
+    }
 }
 
 // What a call comes to: the next state and what was judged where nothing refuses it, and else the state that the refusal leaves.
-pub(crate) fn settle_telling(judged: Judged, verdict: Verdict, next: Drive, left: Drive) -> Reply
-    ensures { result ≡ settle_telling judged verdict next left }
+pub(crate) fn settle_telling(
+    judged: Option<Fate>,
+    told: Result<(), Refusal>,
+    next: Drive,
+    left: Drive,
+) -> Reply
+    ensures { result ≡ settle_telling judged (verdict_of told) next left }
 {
-    let accepted = verdict.number == 0;
-    let place = pick_u8(accepted, 0, verdict.place);
-    let told = pick_judged(accepted, judged, Judged::Nothing);
-    replied(
-        told,
-        pick_drive(accepted, next, left),
-        verdict.number,
-        place,
-    )
+    match told {
+        Ok(()) => replied(judged, next, 0, 0),
+        Err(refusal) => replied(None, left, refusal.number(), refusal.place()),
+    }
 }
 
 // The same of a call that judges no sample.
-pub(crate) fn settle(verdict: Verdict, next: Drive, left: Drive) -> Reply
-    ensures { result ≡ settle verdict next left }
+pub(crate) fn settle(told: Result<(), Refusal>, next: Drive, left: Drive) -> Reply
+    ensures { result ≡ settle (verdict_of told) next left }
 {
-    settle_telling(Judged::Nothing, verdict, next, left)
+    settle_telling(None, told, next, left)
 }

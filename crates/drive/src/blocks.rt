@@ -3,10 +3,12 @@ ghost use Rattle.std.specs.Prelude.{◌≡◌};
 ghost use Rattle.drive.specs.Blocks.{marked, block_load};
 
 use crate::Drive;
-use crate::answer::{Reply, pick_drive, settle};
-use crate::calls::completed;
+use crate::answer::{Reply, settle};
 use crate::causes::BLOCK_REFUSED;
-use images::reader::{body, numbers_of, verdict};
+use images::reader::{body, verdict};
+use numbers::{numbers_at, pick};
+use settings::{ALL_SETTINGS, USUAL_SENSORS};
+use states::State;
 
 impl Drive {
     // With flag 12.
@@ -24,14 +26,12 @@ impl Drive {
         ensures { result ≡ block_load self image.now block }
     {
         let found = verdict(image, block);
-        if found.number == 0 {
-            let body = body(image, block);
-            let count = body.len() / 2;
-            let numbers = numbers_of(body);
-            let state = self.state;
-            let left = pick_drive(state.number() == 0, self.marked(), self);
-            return self.load_or(completed(&numbers[..count]), left);
+        if found.is_err() {
+            return settle(found, self, self);
         }
-        settle(found, self, self)
+        let body = body(image, block);
+        let settings: [u16; ALL_SETTINGS] = numbers_at(body, 0, body.len() / 2, USUAL_SENSORS);
+        let left = pick(self.state == State::Idle, self.marked(), self);
+        self.load_or(&settings, left)
     }
 }

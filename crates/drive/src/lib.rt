@@ -3,6 +3,7 @@
 
 pub mod answer;
 mod blocks;
+pub mod call;
 mod calls;
 mod causes;
 mod command;
@@ -16,7 +17,7 @@ ghost use Rattle.drive.specs.Calls.{fresh};
 use hall::layout::Sensors;
 use hall::{Hall, POWERED_UP};
 use motor::{AT_REST, Run};
-use offsets::{Offsets, UNMEASURED};
+use offsets::Offsets;
 use settings::SETTING_COUNT;
 use states::State;
 
@@ -37,22 +38,7 @@ pub struct Drive {
     pub retries: u32,
 }
 
-// All zero, in IDLE.
-pub(crate) const POWER_UP: Drive = Drive {
-    state: State::Idle,
-    settings: [0u16; SETTING_COUNT],
-    sensors: Sensors::Three,
-    hall: POWERED_UP,
-    flags: 0,
-    cycles: 0,
-    ticks: 0,
-    offsets: UNMEASURED,
-    run: AT_REST,
-    armed: false,
-    retries: 0,
-};
-
-// Everything as at power-up, but state, settings and sensors.
+// Everything as at power-up, all zero, but state, settings and sensors.
 pub(crate) fn fresh(state: State, settings: [u16; SETTING_COUNT], sensors: Sensors) -> Drive
     ensures { result ≡ fresh state settings sensors }
 {
@@ -60,6 +46,13 @@ pub(crate) fn fresh(state: State, settings: [u16; SETTING_COUNT], sensors: Senso
         state,
         settings,
         sensors,
-        ..POWER_UP
+        hall: POWERED_UP,
+        flags: 0,
+        cycles: 0,
+        ticks: 0,
+        offsets: Offsets::default(),
+        run: AT_REST,
+        armed: false,
+        retries: 0,
     }
 }

@@ -1,38 +1,20 @@
 // The offsets of the two current samples, measured in OFFSETCAL.
-ghost use Rattle.std.specs.Prelude.{◌≡◌, ◌<◌, if◌then◌else◌};
+ghost use Rattle.std.specs.Prelude.{◌≡◌, ◌<◌};
 ghost use Rattle.drive.specs.Offsets.{added, measured_by, cleared};
 
-use std::num::wrapping_add_u32;
-
-#[derive(Clone, Copy)]
+#[derive(Clone, Copy, Default)]
 pub struct Pair {
     pub first: u32,
     pub second: u32,
 }
 
-// Whether the offsets are measured, what they are, and the sums that they are made of.
-#[derive(Clone, Copy)]
+// Whether the offsets are measured, what they are, and the sums that they are made of. No `Option` of the pair: the answer shows the
+// value of any drive, also of one that has not measured it (specs/Answer.antt `answer_telling`).
+#[derive(Clone, Copy, Default)]
 pub struct Offsets {
     pub measured: bool,
     pub value: Pair,
     pub sum: Pair,
-}
-
-const ZERO: Pair = Pair {
-    first: 0,
-    second: 0,
-};
-
-pub(crate) const UNMEASURED: Offsets = Offsets {
-    measured: false,
-    value: ZERO,
-    sum: ZERO,
-};
-
-pub(crate) fn pick_offsets(test: bool, yes: Offsets, no: Offsets) -> Offsets
-    ensures { result ≡ (if test then yes else no) }
-{
-    if test { yes } else { no }
 }
 
 impl Offsets {
@@ -41,8 +23,8 @@ impl Offsets {
     {
         let old = self.sum;
         let sum = Pair {
-            first: wrapping_add_u32(old.first, first as u32),
-            second: wrapping_add_u32(old.second, second as u32),
+            first: old.first.wrapping_add(u32::from(first)),
+            second: old.second.wrapping_add(u32::from(second)),
         };
         Offsets { sum, ..self }
     }
@@ -66,6 +48,9 @@ impl Offsets {
     pub(crate) fn cleared(self) -> Offsets
         ensures { result ≡ cleared self }
     {
-        Offsets { sum: ZERO, ..self }
+        Offsets {
+            sum: Pair::default(),
+            ..self
+        }
     }
 }

@@ -1,22 +1,56 @@
-// The refusals of the calls by the state alone, before what their fields or numbers say.
-ghost use Rattle.std.specs.Prelude.{◌≡◌, not, ◌||◌};
-ghost use Rattle.verdicts.specs.Table.{row, first};
-ghost use Rattle.states.specs.States.{is};
+// What refuses each call, row by row in the paper's order: the state, and then what the call brings.
+ghost use Rattle.std.specs.Prelude.{◌≡◌, ◌||◌, ◌==◌};
+ghost use Rattle.verdicts.specs.Table.{verdict, verdict_of};
+ghost use Rattle.settings.specs.Settings.{setting_count, all_settings};
+ghost use Rattle.drive.specs.Refusals.{highest_pattern, load_rows, cycle_rows, tick_rows};
 
+use crate::Drive;
+use crate::calls::completed;
+use fields::{Cycle, Tick};
+use hall::layout::Sensors;
+use settings::{ALL_SETTINGS, SETTING_COUNT};
 use states::State;
-use verdicts::{Verdict, first};
+use verdicts::{Refusal, refuse};
 
-// IDLE refuses a cycle and a tick.
-pub(crate) fn awake(state: State, fields: Verdict) -> Verdict
-    ensures { result ≡ first (row 3 0 (is 0 state)) fields }
+fn highest_pattern(sensors: Sensors) -> u8
+    ensures { result ≡ highest_pattern sensors }
 {
-    first(3, 0, state.number() == 0, fields)
+    match sensors {
+        Sensors::Three => 7,
+        Sensors::Two => 3,
+    }
 }
 
-// Every state but IDLE and STOP refuses a load.
-pub(crate) fn loadable(state: State, numbers: Verdict) -> Verdict
-    ensures { result ≡ first (row 4 0 (not (is 0 state || is 1 state))) numbers }
+// How many numbers a load has.
+fn is_load(count: usize) -> bool
+    ensures { result ≡ (count == setting_count || count == all_settings) }
 {
-    let n = state.number();
-    first(4, 0, !((n == 0) | (n == 1)), numbers)
+    count == SETTING_COUNT || count == ALL_SETTINGS
+}
+
+impl Drive {
+    pub(crate) fn refuses_cycle(self, fields: Cycle) -> Result<(), Refusal>
+        ensures { verdict_of result ≡ verdict (cycle_rows self fields) }
+    {
+        refuse(Refusal::Idle, self.state == State::Idle)?;
+        fields.verdict(highest_pattern(self.sensors))
+    }
+
+    pub(crate) fn refuses_tick(self, fields: Tick) -> Result<(), Refusal>
+        ensures { verdict_of result ≡ verdict (tick_rows self fields) }
+    {
+        refuse(Refusal::Idle, self.state == State::Idle)?;
+        fields.verdict()
+    }
+
+    pub(crate) fn refuses_load(self, numbers: &[u16]) -> Result<(), Refusal>
+        ensures { verdict_of result ≡ verdict (load_rows self numbers.now) }
+    {
+        refuse(
+            Refusal::Running,
+            !matches!(self.state, State::Idle | State::Stop),
+        )?;
+        refuse(Refusal::Setting(0), !is_load(numbers.len()))?;
+        settings::verdict(completed(numbers))
+    }
 }

@@ -1,13 +1,11 @@
 // The tick: causes, then the command, then one move.
 ghost use Rattle.std.specs.Prelude.{◌≡◌};
-ghost use Rattle.drive.specs.Ticks.{arrive, entered, stayed, measured, retried_trip, moved, ticked, tick};
+ghost use Rattle.drive.specs.Ticks.{arrive, entered, stayed, measured, cleared_trip, retried_trip, moved, ticked, tick};
 
 use crate::Drive;
 use crate::answer::{Reply, settle};
 use crate::causes::{alive, causes};
 use crate::command::{high, low};
-use crate::offsets::{Offsets, pick_offsets};
-use crate::refusals::awake;
 use faults::{arms, retried};
 use fields::Tick;
 use motor::{AT_REST, Run, Watched};
@@ -16,104 +14,93 @@ use numbers::count_up;
 use settings::{OFFSET_PSC, RETRY_LIMIT, samples};
 use states::State;
 
+// What a move leaves of a drive whose flags, arming and count of ticks are already those of the tick. What the tick is told and what is
+// watched by it stay two parameters: a struct of both would have no name but theirs.
 impl Drive {
-    fn arrive(
-        self,
-        state: State,
-        flags: u16,
-        offsets: Offsets,
-        run: Run,
-        armed: bool,
-        retries: u32,
-    ) -> Drive
-        ensures { result ≡ arrive self state flags offsets run armed retries }
+    // A move into a state, which begins with no cycles and no ticks.
+    fn arrive(self, state: State, run: Run) -> Drive
+        ensures { result ≡ arrive self state self.flags self.offsets run self.armed self.retries }
     {
         Drive {
             state,
-            flags,
             cycles: 0,
             ticks: 0,
-            offsets,
             run,
-            armed,
-            retries,
             ..self
         }
     }
 
-    fn entered(self, tick: Tick, watched: Watched, flags: u16, armed: bool, state: State) -> Drive
-        ensures { result ≡ entered self tick watched flags armed state }
+    fn stayed(self, tick: Tick, watched: Watched) -> Drive
+        ensures { result ≡ stayed self tick watched self.flags self.armed self.ticks }
     {
-        let settings = self.settings;
-        let n = state.number();
-        let offsets = pick_offsets(n == 2, self.offsets.cleared(), self.offsets);
-        let run = self.run.after(settings, tick, watched, false, n == 4);
-        self.arrive(
-            state,
-            flags,
-            offsets,
-            run,
-            armed & !((n == 3) | (n == 5)),
-            self.retries,
-        )
-    }
-
-    fn stayed(self, tick: Tick, watched: Watched, flags: u16, armed: bool, nth: u32) -> Drive
-        ensures { result ≡ stayed self tick watched flags armed nth }
-    {
-        let state = self.state;
-        let settings = self.settings;
-        let run = self
-            .run
-            .after(settings, tick, watched, state.number() == 4, false);
+        let running = self.state == State::MotorRun;
         Drive {
-            flags,
-            ticks: nth,
-            run,
-            armed,
+            run: self.run.after(self.settings, tick, watched, running, false),
             ..self
         }
     }
 
-    fn measured(self, flags: u16, armed: bool) -> Drive
-        ensures { result ≡ measured self flags armed }
+    fn entered(self, tick: Tick, watched: Watched, state: State) -> Drive
+        ensures { result ≡ entered self tick watched self.flags self.armed state }
     {
-        let settings = self.settings;
-        let n = samples(settings[OFFSET_PSC]);
-        self.arrive(
-            State::Stop,
-            flags,
-            self.offsets.measured_by(n),
-            AT_REST,
-            armed,
-            self.retries,
+        let calibrating = state == State::OffsetCal;
+        let starts = state == State::MotorRun;
+        Drive {
+            offsets: if calibrating {
+                self.offsets.cleared()
+            } else {
+                self.offsets
+            },
+            armed: self.armed && !matches!(state, State::BtsCharge | State::Fault),
+            ..self
+        }
+        .arrive(
+            state,
+            self.run.after(self.settings, tick, watched, false, starts),
         )
+    }
+
+    fn measured(self) -> Drive
+        ensures { result ≡ measured self self.flags self.armed }
+    {
+        Drive {
+            offsets: self.offsets.measured_by(samples(self.settings[OFFSET_PSC])),
+            ..self
+        }
+        .arrive(State::Stop, AT_REST)
+    }
+
+    fn cleared_trip(self) -> Drive
+        ensures { result ≡ cleared_trip self self.armed }
+    {
+        Drive {
+            flags: 0,
+            retries: 0,
+            ..self
+        }
+        .arrive(State::Stop, AT_REST)
     }
 
     fn retried_trip(self) -> Drive
         ensures { result ≡ retried_trip self }
     {
-        let settings = self.settings;
-        let retries = retried(settings[RETRY_LIMIT] as u32, self.retries);
-        self.arrive(State::Stop, 0, self.offsets, AT_REST, true, retries)
+        Drive {
+            flags: 0,
+            armed: true,
+            retries: retried(u32::from(self.settings[RETRY_LIMIT]), self.retries),
+            ..self
+        }
+        .arrive(State::Stop, AT_REST)
     }
 
-    fn moved(
-        self,
-        tick: Tick,
-        watched: Watched,
-        flags: u16,
-        armed: bool,
-        nth: u32,
-        step: Move,
-    ) -> Drive
-        ensures { result ≡ moved self tick watched flags armed nth step }
+    fn moved(self, tick: Tick, watched: Watched, step: Move) -> Drive
+        ensures { result ≡ moved self tick watched self.flags self.armed self.ticks step }
     {
         match step {
-            Move::Stay => self.stayed(tick, watched, flags, armed, nth),
-            Move::Enter(state) => self.entered(tick, watched, flags, armed, state),
-            Move::Measure => self.measured(flags, armed),
-            Move::Clear => { self.arrive(State::Stop, 0, self.offsets, AT_REST, armed, 0) }
+            Move::Stay => self.stayed(tick, watched),
+            Move::Enter(state) => self.entered(tick, watched, state),
+            Move::Measure => self.measured(),
+            Move::Clear => self.cleared_trip(),
             Move::Retry => self.retried_trip(),
         }
     }
@@ -122,39 +109,44 @@ impl Drive {
     fn ticked(self, tick: Tick) -> Drive
         ensures { result ≡ ticked self tick }
     {
-        let state = self.state;
-        let settings = self.settings;
-        let n = state.number();
-        let nth = count_up(self.ticks, 65535);
-        let low = low(settings, tick);
-        let watched = self.run.watched(settings, tick, self.hall.still_count);
-        let standing = causes(settings, n == 4, self.hall.dead_streak, tick, watched);
+        let low = low(self.settings, tick);
+        let watched = self.run.watched(self.settings, tick, self.hall.still_count);
+        let standing = causes(
+            self.settings,
+            self.state == State::MotorRun,
+            self.hall.dead_streak,
+            tick,
+            watched,
+        );
         let raised = self.flags | standing;
         let grounds = Grounds {
-            state,
-            settings,
+            state: self.state,
+            settings: self.settings,
             cycles: self.cycles,
             measured: self.offsets.measured,
             armed: self.armed,
             retries: self.retries,
-            nth,
+            nth: count_up(self.ticks, 65535),
             clear: tick.clear,
             speed: tick.speed,
             low,
-            high: high(settings, tick),
-            tripped: alive(settings, raised) != 0,
-            blocked: alive(settings, standing) != 0,
+            high: high(self.settings, tick),
+            tripped: alive(self.settings, raised) != 0,
+            blocked: alive(self.settings, standing) != 0,
         };
-        let armed = arms(self.armed, low, n == 5);
-        self.moved(tick, watched, raised, armed, nth, grounds.move_of())
+        Drive {
+            flags: raised,
+            ticks: grounds.nth,
+            armed: arms(self.armed, low, self.state == State::Fault),
+            ..self
+        }
+        .moved(tick, watched, grounds.move_of())
     }
 
     #[tactic(auto, unfolding(crate::specs::Ticks::tick))]
     pub fn tick(self, fields: Tick) -> Reply
         ensures { result ≡ tick self fields }
     {
-        let state = self.state;
-        let verdict = awake(state, fields.verdict());
-        settle(verdict, self.ticked(fields), self)
+        settle(self.refuses_tick(fields), self.ticked(fields), self)
     }
 }

@@ -1,33 +1,22 @@
 -- The fault word bit by bit: a bit of two words together, of the live ones and of one flag; and a word is not 0 just where a bit is 1.
-use mathlib.Core.Path.{◌≡◌, refl, sym, subst}
+use mathlib.Core.Path.{◌≡◌, sym, subst}
 use mathlib.Core.Bool.{Bool, true, false, ◌&&◌, ◌||◌}
 use mathlib.Core.List.{List, [], ◌∷◌}
-use Prim.Native.Nat.{ℕ, zero, suc, ◌+◌, ◌/◌, ◌%◌, ◌^◌, ◌<◌}
-use native.Mathlib.Nat.{le_of_suc-le-suc, not-suc-le-zero, zero-div, div-one, div_self}
+use Prim.Native.Nat.{ℕ, zero, suc, ◌+◌, ◌/◌, ◌%◌, ◌^◌}
+use native.Mathlib.Nat.{zero-div, div-one, div_self}
 use native.Mathlib.Omega.{arith}
-use lib.Bits.{bit_and, bit_or, and_shr, or_shr, and_mod, or_mod}
+use lib.Bits.{bit_and}
 use lib.Arith.{bin_ind}
 use lib.Dec.{T, eqb}
 use lib.Pow.{pow_pos, shr-shr}
 use mir.Facts.{and_yes, yes_and, eqb_yes, eqb_no, no_eqb}
+use Rattle.std.proofs.lemmas.Nat.Bits.{bit_at_and, bit_at_or, bit_at-lt}
+use Rattle.std.proofs.lemmas.Bool.Decides.{nat_tests}
 use Rattle.numbers.proofs.Tests.{or_left, or_right, or_cases, decide}
 use Rattle.faults.specs.Word.{bit, flag, ◌or◌, with, together, live, any}
 
--- a last bit is 0 or 1
-pub last : (P : ℕ → Type 0) (n : ℕ) → n < 2 → P 0 → P 1 → P n
-last P zero small p0 p1 = p0
-last P (suc zero) small p0 p1 = p1
-last P (suc (suc n)) small p0 p1 = absurd (not-suc-le-zero (le_of_suc-le-suc (le_of_suc-le-suc small)))
-
-pub two : (P : ℕ → ℕ → Type 0) (m n : ℕ) → m < 2 → n < 2 → (P 0 0 × P 0 1) × (P 1 0 × P 1 1) → P m n
-two P m n small small' p =
-    last (λ m. P m n) m small (last (P 0) n small' p.0.0 p.0.1) (last (P 1) n small' p.1.0 p.1.1)
-
 pub bit_or_lem : (k f g : ℕ) → bit k (f or g) ≡ (bit k f || bit k g)
-bit_or_lem k f g =
-    rw (or_shr f g k, or_mod (f / 2 ^ k) (g / 2 ^ k) 1)
-    (two (λ m n. eqb (bit_or m n) 1 ≡ (eqb m 1 || eqb n 1)) (f / 2 ^ k % 2) (g / 2 ^ k % 2) (omega arith) (omega arith)
-    ((refl, refl), (refl, refl)))
+bit_or_lem k f g = rw (bit_at_or f g k) (grind (arith, nat_tests, bit_at-lt f k, bit_at-lt g k))
 
 -- so a bit of either is one of both
 pub old_bit : (k f g : ℕ) → T (bit k f) → T (bit k (f or g))
@@ -37,10 +26,7 @@ pub new_bit : (k f g : ℕ) → T (bit k g) → T (bit k (f or g))
 new_bit k f g t = subst T (sym (bit_or_lem k f g)) (or_right (bit k f) (bit k g) t)
 
 pub bit_and_lem : (k f g : ℕ) → bit k (bit_and f g) ≡ (bit k f && bit k g)
-bit_and_lem k f g =
-    rw (and_shr f g k, and_mod (f / 2 ^ k) (g / 2 ^ k) 1)
-    (two (λ m n. eqb (bit_and m n) 1 ≡ (eqb m 1 && eqb n 1)) (f / 2 ^ k % 2) (g / 2 ^ k % 2) (omega arith) (omega arith)
-    ((refl, refl), (refl, refl)))
+bit_and_lem k f g = rw (bit_at_and f g k) (grind (arith, nat_tests, bit_at-lt f k, bit_at-lt g k))
 
 pub bit_flag : (k : ℕ) (set : Bool) → T set → T (bit k (flag k set))
 bit_flag k true t = rw (div_self (pow_pos k)) tt

@@ -1,56 +1,22 @@
--- Words of flags as wholes: two with the same bits are one; flags are joined in any order; of one flag that flag is live or nothing.
-use mathlib.Core.Path.{◌≡◌, refl, sym, subst, ap, ◌∙◌}
-use mathlib.Core.Bool
-use mathlib.Core.Bool.{Bool, true, false, ◌&&◌, ◌||◌, cond, or_comm, and-or_distrib_right}
+-- Words of flags as wholes: flags are joined in any order, and of one flag that flag is live or nothing.
+use mathlib.Core.Path.{◌≡◌, refl, ap, ◌∙◌}
+use mathlib.Core.Bool.{Bool, true, false, ◌&&◌, cond}
 use mathlib.Core.List.{List, [], ◌∷◌, ◌++◌}
-use Prim.Native.Nat.{ℕ, ◌+◌, ◌*◌, ◌/◌, ◌%◌, ◌^◌, ◌<◌}
-use native.Mathlib.Nat.{div-one, div_self, mod_self, div-add-mod'}
+use Prim.Native.Nat.{ℕ, zero, suc, ◌*◌, ◌^◌, ◌<◌}
 use native.Mathlib.Omega.{arith}
-use lib.Arith.{bin_ind}
-use lib.Bits.{bit_and, and_shr, and_mod, and_mask, and_comm, and_zero_l}
-use lib.Dec.{T, eqb}
-use lib.Pow.{pow_pos, shr-shr}
-use mir.Facts.{T_not-not, eqb_yes}
-use Rattle.numbers.proofs.Tests.{decide}
-use Rattle.faults.specs.Word.{bit, flag, ◌or◌, with, together, live, any}
-use Rattle.faults.proofs.Bits.{last, two, some_bit, from_bit, bit_or_lem, bit_and_lem}
-
--- the last bits
-same_last : (m n : ℕ) → m < 2 → n < 2 → eqb m 1 ≡ eqb n 1 → m ≡ n
-same_last m n small small' =
-    two (λ (m n : ℕ). eqb m 1 ≡ eqb n 1 → m ≡ n) m n small small'
-    ((λ e. refl, λ e. absurd (subst T (sym e) (tt {0}))), (λ e. absurd (subst T e (tt {0})), λ e. refl))
-
--- two words with the same bits are one word
-pub same_bits : (a b : ℕ) → ((k : ℕ) → bit k a ≡ bit k b) → a ≡ b
-same_bits =
-    bin_ind (λ (a : ℕ). (b : ℕ) → ((k : ℕ) → bit k a ≡ bit k b) → a ≡ b)
-    (λ b same.
-    decide (any b) (λ t. some_bit b t (λ k at. absurd (from_bit k 0 (subst T (sym (same k)) at))))
-    (λ none. sym (eqb_yes (T_not-not (eqb b 0) none))))
-    (λ a half b same.
-    let last_bit : ℕ → Bool = λ (n : ℕ). eqb (n % 2) 1 in
-    let halves = half (b / 2) (λ k. ap last_bit (shr-shr a 1 k) ∙ same (1 + k) ∙ sym (ap last_bit (shr-shr b 1 k))) in
-    let ends = same_last (a % 2) (b % 2) (omega arith) (omega arith) (rw (div-one a, div-one b) at (same 0)) in
-    omega (arith, halves, ends))
+use lib.Bits.{and_comm, and_zero_l}
+use lib.Dec.{eqb}
+use Rattle.std.specs.Int.{bit_at}
+use Rattle.std.proofs.lemmas.Nat.Bits.{bit_at_and, bit_at_or, bit_at-lt, and_pow, same_from_bits}
+use Rattle.faults.specs.Word.{bit, flag, ◌or◌, with, together, live}
 
 -- ---- in any order
 
-or_either : (a b c : Bool) → (a || b || c) ≡ (a || c || b)
-or_either a b c = Bool.or_assoc a b c ∙ ap (λ (other : Bool). a || other) (or_comm b c) ∙ sym (Bool.or_assoc a c b)
-
 pub or_swap : (f g h : ℕ) → (f or g or h) ≡ (f or h or g)
-or_swap f g h =
-    same_bits (f or g or h) (f or h or g)
-    (λ k.
-    rw (bit_or_lem k (f or g) h, bit_or_lem k f g, bit_or_lem k (f or h) g, bit_or_lem k f h) (or_either (bit k f) (bit k g) (bit k h)))
+or_swap f g h = same_from_bits (f or g or h) (f or h or g) (λ k. simp bit_at_or (omega arith))
 
 pub or_assoc : (f g h : ℕ) → (f or (g or h)) ≡ (f or g or h)
-or_assoc f g h =
-    same_bits (f or (g or h)) (f or g or h)
-    (λ k.
-    rw (bit_or_lem k f (g or h), bit_or_lem k g h, bit_or_lem k (f or g) h, bit_or_lem k f g)
-    (sym (Bool.or_assoc (bit k f) (bit k g) (bit k h))))
+or_assoc f g h = same_from_bits (f or (g or h)) (f or g or h) (λ k. simp bit_at_or (omega arith))
 
 -- the first of several flags may as well be the last
 first_last :
@@ -75,37 +41,25 @@ taken_out = taken_out_of 0
 
 -- ---- what is live
 
--- of one bit and any word
-one_bit : (k word : ℕ) → bit_and (2 ^ k) word ≡ cond (bit k word) (2 ^ k) 0
-one_bit k word =
-    sym (div-add-mod' (bit_and (2 ^ k) word) (2 ^ k))
-    ∙ rw (
-      and_shr (2 ^ k) word k,
-      and_mod (2 ^ k) word k,
-      div_self (pow_pos k),
-      mod_self (2 ^ k),
-      and_zero_l (word % 2 ^ k),
-      and_comm 1 (word / 2 ^ k),
-      and_mask (word / 2 ^ k) 1,
-    )
-    (last (λ (n : ℕ). n * 2 ^ k + 0 ≡ cond (eqb n 1) (2 ^ k) 0) (word / 2 ^ k % 2) (omega arith) (omega arith) (omega arith))
+-- ---- what is live
+
+-- a last bit is 0 or 1
+last : (P : ℕ → Type 0) (n : ℕ) → n < 2 → P 0 → P 1 → P n
+last P zero small p0 p1 = p0
+last P (suc zero) small p0 p1 = p1
+last P (suc (suc n)) small p0 p1 = absurd (omega arith)
 
 module _ (always mask : ℕ) where
   -- what is live of two words is live of each
   pub live_each : (f g : ℕ) → live always mask (f or g) ≡ (live always mask f or live always mask g)
   live_each f g =
-      let enabled : ℕ = always or mask in
-      same_bits (live always mask (f or g)) (live always mask f or live always mask g)
-      (λ k.
-      rw (
-        bit_and_lem k (f or g) enabled,
-        bit_or_lem k f g,
-        bit_or_lem k (bit_and f enabled) (bit_and g enabled),
-        bit_and_lem k f enabled,
-        bit_and_lem k g enabled,
-      )
-      (and-or_distrib_right (bit k f) (bit k g) (bit k enabled)))
+      same_from_bits (live always mask (f or g)) (live always mask f or live always mask g)
+      (λ k. simp (bit_at_and, bit_at_or) (omega arith))
 
+  -- of one flag that flag or nothing
   pub live_flag : (k : ℕ) (set : Bool) → live always mask (flag k set) ≡ flag k (set && bit k (always or mask))
-  live_flag k true = one_bit k (always or mask)
+  live_flag k true =
+      rw (and_comm (2 ^ k) (always or mask), and_pow (always or mask) k)
+      (last (λ (n : ℕ). n * 2 ^ k ≡ cond (eqb n 1) (2 ^ k) 0) (bit_at (always or mask) k)
+      (bit_at-lt (always or mask) k) (omega arith) (omega arith))
   live_flag k false = and_zero_l (always or mask)

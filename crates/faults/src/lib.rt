@@ -5,10 +5,10 @@ ghost use Rattle.std.specs.Prelude.{cond, ◌&&◌, ◌||◌, not, ◌≡◌};
 ghost use Rattle.faults.specs.Word.{live};
 ghost use Rattle.faults.specs.Exit.{arms, from_fault, retried};
 
-use numbers::count_up;
+use numbers::{count_up, pick};
 
 // How a tick leaves FAULT, if it does.
-#[derive(Clone, Copy)]
+#[derive(Clone, Copy, PartialEq, Eq)]
 pub enum Exit {
     Stay,
     Clear,
@@ -19,7 +19,7 @@ pub enum Exit {
 pub fn flag(bit: u16, set: bool) -> u16
     ensures { result ≡ cond set bit 0 }
 {
-    if set { bit } else { 0 }
+    pick(set, bit, 0)
 }
 
 // The flags that the mask lets live, and those that always are.
@@ -33,23 +33,22 @@ pub fn live(always: u16, mask: u16, flags: u16) -> u16
 pub fn arms(armed: bool, low: bool, in_fault: bool) -> bool
     ensures { result ≡ arms armed low in_fault }
 {
-    armed | (low & !in_fault)
-}
-
-fn pick_exit(test: bool, yes: Exit, no: Exit) -> Exit
-    ensures { result ≡ cond test yes no }
-{
-    if test { yes } else { no }
+    armed || low && !in_fault
 }
 
 // The move out of FAULT at its nth tick.
 pub fn from_fault(timed: bool, limit: u32, nth: u32, retries: u32, clear: u8, blocked: bool) -> Exit
     ensures { result ≡ from_fault timed limit nth retries clear blocked }
 {
-    let again = timed & (10000 <= nth) & (retries < limit);
-    let waits = pick_exit(again, Exit::Retry, Exit::Stay);
-    let ends = pick_exit(clear == 1, Exit::Clear, waits);
-    pick_exit(blocked, Exit::Stay, ends)
+    if blocked {
+        Exit::Stay
+    } else if clear == 1 {
+        Exit::Clear
+    } else if timed && 10000 <= nth && retries < limit {
+        Exit::Retry
+    } else {
+        Exit::Stay
+    }
 }
 
 // The retries used, after one more.

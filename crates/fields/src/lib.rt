@@ -2,11 +2,10 @@
 #![tactic(auto)]
 
 ghost use Rattle.std.specs.Prelude.{◌≡◌};
-ghost use Rattle.verdicts.specs.Table.{verdict};
-ghost use Rattle.fields.specs.Fields.{cycle_fields, signed_fields, tick_fields};
+ghost use Rattle.verdicts.specs.Table.{verdict, verdict_of};
+ghost use Rattle.fields.specs.Fields.{cycle_fields, tick_fields};
 
-use numbers::absolute;
-use verdicts::{ACCEPTED, Verdict, first};
+use verdicts::{Refusal, refuse};
 
 #[derive(Clone, Copy)]
 pub struct Cycle {
@@ -32,36 +31,29 @@ pub struct Tick {
 
 impl Cycle {
     // The patterns go up to the highest that the motor's sensors can give.
-    // The rows stand from the last to the first, so that the first that holds is left.
-    pub fn verdict(self, highest: u8) -> Verdict
-        ensures { result ≡ verdict (cycle_fields highest self) }
+    pub fn verdict(self, highest: u8) -> Result<(), Refusal>
+        ensures { verdict_of result ≡ verdict (cycle_fields highest self) }
     {
-        let second = first(1, 3, 4095 < self.second, ACCEPTED);
-        let sample = first(1, 2, 4095 < self.first, second);
-        first(1, 1, highest < self.pattern, sample)
+        refuse(Refusal::Field(1), highest < self.pattern)?;
+        refuse(Refusal::Field(2), 4095 < self.first)?;
+        refuse(Refusal::Field(3), 4095 < self.second)
     }
 }
 
 impl Tick {
-    // The last three, which are signed.
-    fn signed_verdict(self) -> Verdict
-        ensures { result ≡ verdict (signed_fields self) }
+    pub fn verdict(self) -> Result<(), Refusal>
+        ensures { verdict_of result ≡ verdict (tick_fields self) }
     {
-        let target = first(1, 11, 32767 < absolute(self.target), ACCEPTED);
-        let speed = first(1, 10, 32767 < absolute(self.speed), target);
-        first(1, 9, 4095 < absolute(self.trq_ref), speed)
-    }
-
-    pub fn verdict(self) -> Verdict
-        ensures { result ≡ verdict (tick_fields self) }
-    {
-        let flx_m = first(1, 8, 65535 < (self.flx_m as u32), self.signed_verdict());
-        let temperature = first(1, 7, 4095 < self.temperature, flx_m);
-        let vdc_filt = first(1, 6, 4095 < self.vdc_filt, temperature);
-        let vdc_raw = first(1, 5, 4095 < self.vdc_raw, vdc_filt);
-        let control = first(1, 4, 4095 < self.control, vdc_raw);
-        let command = first(1, 3, 1 < self.command, control);
-        let clear = first(1, 2, 1 < self.clear, command);
-        first(1, 1, 1 < self.gate_kill, clear)
+        refuse(Refusal::Field(1), 1 < self.gate_kill)?;
+        refuse(Refusal::Field(2), 1 < self.clear)?;
+        refuse(Refusal::Field(3), 1 < self.command)?;
+        refuse(Refusal::Field(4), 4095 < self.control)?;
+        refuse(Refusal::Field(5), 4095 < self.vdc_raw)?;
+        refuse(Refusal::Field(6), 4095 < self.vdc_filt)?;
+        refuse(Refusal::Field(7), 4095 < self.temperature)?;
+        refuse(Refusal::Field(8), 65535 < u32::from(self.flx_m))?;
+        refuse(Refusal::Field(9), 4095 < self.trq_ref.unsigned_abs())?;
+        refuse(Refusal::Field(10), 32767 < self.speed.unsigned_abs())?;
+        refuse(Refusal::Field(11), 32767 < self.target.unsigned_abs())
     }
 }

@@ -1,11 +1,9 @@
 -- Document 01, "Cycle", and document 02, M-101, "Motors with two Hall sensors": a layout is data, and there are two of them. Fate, sector,
 -- counts and angle are defined over any layout (Fate.antt, Angle.antt, Sample.antt).
-use Rattle.std.specs.Prelude.{ℕ, Bool, true, false, cond, List, [], ◌∷◌, ◌++◌, ◌==◌}
+use Rattle.std.specs.Prelude.{ℕ, Bool, true, false, cond, List, [], ◌∷◌, ◌++◌, ◌==◌, Option, Some, None}
 use Rattle.hall.specs.declared.layout.Sensors.{Sensors}
 use Rattle.hall.specs.declared.layout.Sensors.TheVariants.{Three, Two}
 use Rattle.hall.specs.declared.layout.Sector.{Sector}
-use Rattle.hall.specs.declared.layout.Place.{Place}
-use Rattle.hall.specs.declared.layout.Place.TheVariants.{Outside, Within}
 
 -- each list but the first is written in the order of the first
 pub record Layout : Type 0 where
@@ -85,5 +83,5 @@ sector_of l p =
     }
 
 -- where a pattern stands in the layout
-unfoldable pub place_of : Layout → ℕ → Place
-place_of l p = cond (among l.order p) (Within (sector_of l p)) Outside
+unfoldable pub place_of : Layout → ℕ → Option Sector
+place_of l p = cond (among l.order p) (Some (sector_of l p)) None

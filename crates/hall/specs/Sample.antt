@@ -1,5 +1,5 @@
 -- Document 01, "Cycle": what each group of a sample does to the Hall part of the state.
-use Rattle.std.specs.Prelude.{ℕ, ◌+◌, ◌-◌, ◌%◌, ◌^◌, Bool, false, cond, ℤ, pos, nat_eq}
+use Rattle.std.specs.Prelude.{ℕ, ◌+◌, ◌-◌, ◌%◌, ◌^◌, Bool, false, cond, ℤ, pos, nat_eq, Option, Some, None, unwrap_or}
 use Rattle.numbers.specs.Count.{up}
 use Rattle.hall.specs.Layout.{Layout, layout, sector_of}
 use Rattle.hall.specs.Fate.{fate}
@@ -8,13 +8,11 @@ use Rattle.hall.specs.declared.Hall.{Hall}
 use Rattle.hall.specs.declared.Sampled.{Sampled}
 use Rattle.hall.specs.declared.fate.Fate.{Fate}
 use Rattle.hall.specs.declared.fate.Fate.TheVariants.{Dead, First, Same, Forward, Back, Stray}
-use Rattle.hall.specs.declared.fate.Kept.{Kept}
-use Rattle.hall.specs.declared.fate.Kept.TheVariants.{Nothing, Pattern}
 use Rattle.hall.specs.declared.layout.Sensors.{Sensors}
 
 -- "Power-up is IDLE, all zero." "Before any pattern [the angle] is 0, without offset."
 abbrev pub powered_up : Hall
-powered_up = record { kept = Nothing; position = 0; angle = pos 0; dead_streak = 0; stray_streak = 0; still_count = 0 }
+powered_up = record { kept = None; position = 0; angle = pos 0; dead_streak = 0; stray_streak = 0; still_count = 0 }
 
 -- "position plus or minus" a count; "The position counter runs modulo 2^32."
 abbrev pub plus : ℕ → ℕ → ℕ
@@ -29,7 +27,7 @@ keeps fate pattern position angle =
     record {
       hall =
           record {
-            kept = Pattern pattern;
+            kept = Some pattern;
             position = position;
             angle = angle;
             dead_streak = 0;
@@ -41,7 +39,7 @@ keeps fate pattern position angle =
     }
 
 -- any other sample: the still count "otherwise [..] grows to at most 4096"; "Otherwise the angle stays."
-abbrev pub rests : Hall → Fate → Kept → ℕ → ℕ → Bool → Sampled
+abbrev pub rests : Hall → Fate → Option ℕ → ℕ → ℕ → Bool → Sampled
 rests hall fate kept dead stray flagged =
     record {
       hall =
@@ -58,16 +56,15 @@ rests hall fate kept dead stray flagged =
     }
 
 -- the number of the kept pattern, asked for where one is kept
-abbrev pub number : Kept → ℕ
-number Nothing = 0
-number (Pattern p) = p
+abbrev pub number : Option ℕ → ℕ
+number kept = unwrap_or kept 0
 
 -- "0 or 7: dead streak up by one, at most 2; stray streak zero. At 2, flag 15 is set and the kept pattern is forgotten."
 unfoldable pub dead_sample : Hall → Sampled
 dead_sample hall =
     let dead : ℕ = up 2 hall.dead_streak in
     let at2 : Bool = nat_eq dead 2 in
-    rests hall Dead (cond at2 Nothing hall.kept) dead 0 at2
+    rests hall Dead (cond at2 None hall.kept) dead 0 at2
 
 -- "Another of 1..6: stray streak up, dead streak zero. At 3, flag 15 is set, the pattern is forgotten and the stray streak returns to
 -- zero."; with two sensors another of the layout's patterns
@@ -75,7 +72,7 @@ unfoldable pub stray_sample : Hall → Sampled
 stray_sample hall =
     let stray : ℕ = up 3 hall.stray_streak in
     let at3 : Bool = nat_eq stray 3 in
-    rests hall Stray (cond at3 Nothing hall.kept) 0 (cond at3 0 stray) at3
+    rests hall Stray (cond at3 None hall.kept) 0 (cond at3 0 stray) at3
 
 -- the five groups, two of them steps
 abbrev pub after : Layout → Hall → ℕ → ℤ → Fate → Sampled

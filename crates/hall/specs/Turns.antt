@@ -1,6 +1,6 @@
 -- Document 02, M-101: "That a full turn is six counts either way is proved once over both layouts." What a turn is; that it is so is
 -- proved in proofs/Laws.antt.
-use Rattle.std.specs.Prelude.{◌≡◌, ℕ, zero, suc, ◌+◌, List, [], ◌∷◌, length, ℤ, pos, negsuc, ◌+ℤ◌, neg_ℤ}
+use Rattle.std.specs.Prelude.{◌≡◌, ℕ, zero, suc, ◌+◌, List, [], ◌∷◌, length, ℤ, pos, negsuc, ◌+ℤ◌, neg_ℤ, Option, Some}
 use Rattle.hall.specs.Layout.{Layout, layout, next, previous, sector_of}
 use Rattle.hall.specs.Fate.{fate}
 use Rattle.hall.specs.Angle.{boundary_with}
@@ -8,12 +8,10 @@ use Rattle.hall.specs.Sample.{sampled, plus, minus, number}
 use Rattle.hall.specs.declared.Hall.{Hall}
 use Rattle.hall.specs.declared.fate.Fate.{Fate}
 use Rattle.hall.specs.declared.fate.Fate.TheVariants.{Dead, First, Same, Forward, Back, Stray}
-use Rattle.hall.specs.declared.fate.Kept.{Kept}
-use Rattle.hall.specs.declared.fate.Kept.TheVariants.{Pattern}
 use Rattle.hall.specs.declared.layout.Sensors.{Sensors}
 
 -- ---- a sample's count as a signed width: forward the width of the sector left, back less the width of the sector entered, else none
-abbrev pub signed_width : Layout → Fate → Kept → ℕ → ℤ
+abbrev pub signed_width : Layout → Fate → Option ℕ → ℕ → ℤ
 signed_width l Dead kept p = pos 0
 signed_width l First kept p = pos 0
 signed_width l Same kept p = pos 0
@@ -85,5 +83,5 @@ pub record FullTurn (s : Sensors) (way : Way) (hall : Hall) (p : ℕ) (offset : 
   -- "a full turn is six counts either way"
   pub six : (turned s way hall p offset).position ≡ counted way 6 hall.position
   -- pattern and angle are where they were: the angle is that of the step onto the pattern, so it stays where such a step had led there
-  pub pattern : (turned s way hall p offset).kept ≡ Pattern p
+  pub pattern : (turned s way hall p offset).kept ≡ Some p
   pub angle : (turned s way hall p offset).angle ≡ entered (layout s) way offset p

@@ -1,12 +1,12 @@
 // The judgement of a sample.
 ghost use Rattle.std.specs.Prelude.{◌≡◌};
 ghost use Rattle.hall.specs.Layout.{layout};
-ghost use Rattle.hall.specs.Fate.{fate, beside};
+ghost use Rattle.hall.specs.Fate.{fate};
 
-use crate::layout::{Place, Sensors, place_of};
+use crate::layout::Sensors;
 
 // What became of a sample.
-#[derive(Clone, Copy)]
+#[derive(Clone, Copy, PartialEq, Eq, Debug)]
 pub enum Fate {
     Dead,
     First,
@@ -16,39 +16,17 @@ pub enum Fate {
     Stray,
 }
 
-// The kept pattern. None kept is no number: with two sensors 0 is a good pattern.
-#[derive(Clone, Copy)]
-pub enum Kept {
-    Nothing,
-    Pattern(u8),
-}
-
-pub fn judged(sensors: Sensors, pattern: u8, kept: Kept) -> Fate
+// A pattern against the kept one. None kept is no number: with two sensors 0 is a good pattern.
+#[tactic(auto, using(crate::proofs::Layouts::fate_by_place), unfolding(crate::specs::Fate::beside))]
+pub fn judged(sensors: Sensors, pattern: u8, kept: Option<u8>) -> Fate
     ensures { result ≡ fate (layout sensors) pattern kept }
 {
-    match place_of(sensors, pattern) {
-        Place::Outside => Fate::Dead,
-        Place::Within(sector) => between(sector.behind, pattern, sector.ahead, kept),
-    }
-}
-
-#[tactic(auto, unfolding(crate::specs::Fate::beside))]
-fn between(behind: u8, here: u8, ahead: u8, kept: Kept) -> Fate
-    ensures { result ≡ beside behind here ahead kept }
-{
-    match kept {
-        Kept::Nothing => Fate::First,
-        Kept::Pattern(held) => {
-            if held == here {
-                return Fate::Same;
-            }
-            if held == behind {
-                return Fate::Forward;
-            }
-            if held == ahead {
-                return Fate::Back;
-            }
-            Fate::Stray
-        }
+    match (sensors.place_of(pattern), kept) {
+        (None, _) => Fate::Dead,
+        (Some(_), None) => Fate::First,
+        (Some(_), Some(held)) if held == pattern => Fate::Same,
+        (Some(sector), Some(held)) if held == sector.behind => Fate::Forward,
+        (Some(sector), Some(held)) if held == sector.ahead => Fate::Back,
+        (Some(_), Some(_)) => Fate::Stray,
     }
 }

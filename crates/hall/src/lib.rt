@@ -5,20 +5,18 @@ mod angle;
 pub mod fate;
 pub mod layout;
 
-ghost use Rattle.std.specs.Prelude.{◌≡◌};
-ghost use Rattle.hall.specs.declared.fate.Fate.TheVariants.{First, Forward, Back};
-ghost use Rattle.hall.specs.Layout.{layout};
-ghost use Rattle.hall.specs.Sample.{keeps, rests, number, dead_sample, stray_sample, after, sampled};
+ghost use Rattle.std.specs.Prelude.{◌≡◌, cond, None};
+ghost use Rattle.hall.specs.Sample.{rests, dead_sample, stray_sample, sampled};
 
 use angle::angle_at;
-use fate::{Fate, Kept, judged};
-use layout::{Sensors, sector_of};
-use std::num::{wrapping_add_u32, wrapping_sub_u32};
+use fate::{Fate, judged};
+use layout::Sensors;
+use numbers::pick;
 
 // The Hall part of the drive state.
-#[derive(Clone, Copy)]
+#[derive(Clone, Copy, PartialEq, Eq, Debug)]
 pub struct Hall {
-    pub kept: Kept,
+    pub kept: Option<u8>,
     pub position: u32,
     pub angle: i16,
     pub dead_streak: u32,
@@ -26,9 +24,9 @@ pub struct Hall {
     pub still_count: u32,
 }
 
-// No pattern kept, and all else zero.
+// No pattern kept, and all else zero; a constant and no `Default`, since it is named by what it means where it is used.
 pub const POWERED_UP: Hall = Hall {
-    kept: Kept::Nothing,
+    kept: None,
     position: 0,
     angle: 0,
     dead_streak: 0,
@@ -37,38 +35,11 @@ pub const POWERED_UP: Hall = Hall {
 };
 
 // What a sample gives: the next Hall part, what became of the sample, and whether it sets flag 15.
-#[derive(Clone, Copy)]
+#[derive(Clone, Copy, PartialEq, Eq, Debug)]
 pub struct Sampled {
     pub hall: Hall,
     pub fate: Fate,
     pub flagged: bool,
-}
-
-fn keeps(fate: Fate, pattern: u8, position: u32, angle: i16) -> Sampled
-    ensures { result ≡ keeps fate pattern position angle }
-{
-    let hall = Hall {
-        kept: Kept::Pattern(pattern),
-        position,
-        angle,
-        dead_streak: 0,
-        stray_streak: 0,
-        still_count: 0,
-    };
-    Sampled {
-        hall,
-        fate,
-        flagged: false,
-    }
-}
-
-fn number(kept: Kept) -> u8
-    ensures { result ≡ number kept }
-{
-    match kept {
-        Kept::Nothing => 0,
-        Kept::Pattern(pattern) => pattern,
-    }
 }
 
 impl Hall {
@@ -77,44 +48,30 @@ impl Hall {
     pub fn sampled(self, sensors: Sensors, pattern: u8, offset: i16) -> Sampled
         ensures { result ≡ sampled sensors self pattern offset }
     {
-        let kept = self.kept;
-        match judged(sensors, pattern, kept) {
-            Fate::Dead => self.dead_sample(),
-            Fate::First => self.first_sample(sensors, pattern, offset),
-            Fate::Same => self.rests(Fate::Same, kept, 0, 0, false),
-            Fate::Forward => self.forward_sample(sensors, pattern, offset),
-            Fate::Back => self.back_sample(sensors, pattern, offset),
-            Fate::Stray => self.stray_sample(),
+        let fate = judged(sensors, pattern, self.kept);
+        let left = sensors.sector_of(self.kept.unwrap_or(0));
+        let entered = sensors.sector_of(pattern);
+        let (position, twelfths) = match fate {
+            Fate::First => (self.position, entered.middle),
+            // Going clockwise, the sector that is left counts.
+            Fate::Forward => (self.position.wrapping_add(left.width), left.boundary),
+            // Going back, it is the sector that is entered: the same boundary, and as many counts.
+            Fate::Back => (self.position.wrapping_sub(entered.width), entered.boundary),
+            Fate::Same => return self.rests(fate, 0, 0, false),
+            Fate::Dead => return self.dead_sample(),
+            Fate::Stray => return self.stray_sample(),
+        };
+        let hall = Hall {
+            kept: Some(pattern),
+            position,
+            angle: angle_at(twelfths, offset),
+            ..POWERED_UP
+        };
+        Sampled {
+            hall,
+            fate,
+            flagged: false,
         }
-    }
-
-    fn first_sample(self, sensors: Sensors, pattern: u8, offset: i16) -> Sampled
-        ensures { result ≡ after (layout sensors) self pattern offset First }
-    {
-        let entered = sector_of(sensors, pattern);
-        let angle = angle_at(entered.middle, offset);
-        keeps(Fate::First, pattern, self.position, angle)
-    }
-
-    // Going clockwise, the sector that is left counts.
-    fn forward_sample(self, sensors: Sensors, pattern: u8, offset: i16) -> Sampled
-        ensures { result ≡ after (layout sensors) self pattern offset Forward }
-    {
-        let kept = self.kept;
-        let left = sector_of(sensors, number(kept));
-        let position = wrapping_add_u32(self.position, left.width);
-        let angle = angle_at(left.boundary, offset);
-        keeps(Fate::Forward, pattern, position, angle)
-    }
-
-    // Going back, it is the sector that is entered: the same boundary, and as many counts.
-    fn back_sample(self, sensors: Sensors, pattern: u8, offset: i16) -> Sampled
-        ensures { result ≡ after (layout sensors) self pattern offset Back }
-    {
-        let entered = sector_of(sensors, pattern);
-        let position = wrapping_sub_u32(self.position, entered.width);
-        let angle = angle_at(entered.boundary, offset);
-        keeps(Fate::Back, pattern, position, angle)
     }
 
     #[tactic(auto, unfolding(crate::specs::Sample::dead_sample))]
@@ -122,11 +79,7 @@ impl Hall {
         ensures { result ≡ dead_sample self }
     {
         let dead = numbers::count_up(self.dead_streak, 2);
-        if dead == 2 {
-            return self.rests(Fate::Dead, Kept::Nothing, dead, 0, true);
-        }
-        let kept = self.kept;
-        self.rests(Fate::Dead, kept, dead, 0, false)
+        self.rests(Fate::Dead, dead, 0, dead == 2)
     }
 
     #[tactic(auto, unfolding(crate::specs::Sample::stray_sample))]
@@ -134,24 +87,20 @@ impl Hall {
         ensures { result ≡ stray_sample self }
     {
         let stray = numbers::count_up(self.stray_streak, 3);
-        if stray == 3 {
-            return self.rests(Fate::Stray, Kept::Nothing, 0, 0, true);
-        }
-        let kept = self.kept;
-        self.rests(Fate::Stray, kept, 0, stray, false)
+        let at_last = stray == 3;
+        self.rests(Fate::Stray, 0, pick(at_last, 0, stray), at_last)
     }
 
-    fn rests(self, fate: Fate, kept: Kept, dead: u32, stray: u32, flagged: bool) -> Sampled
-        ensures { result ≡ rests self fate kept dead stray flagged }
+    // A sample that keeps no new pattern; one that sets flag 15 forgets the kept one.
+    fn rests(self, fate: Fate, dead_streak: u32, stray_streak: u32, flagged: bool) -> Sampled
+        ensures { result ≡ rests self fate (cond flagged None self.kept) dead_streak stray_streak flagged }
     {
-        let still = numbers::count_up(self.still_count, 4096);
         let hall = Hall {
-            kept,
-            position: self.position,
-            angle: self.angle,
-            dead_streak: dead,
-            stray_streak: stray,
-            still_count: still,
+            kept: pick(flagged, None, self.kept),
+            dead_streak,
+            stray_streak,
+            still_count: numbers::count_up(self.still_count, 4096),
+            ..self
         };
         Sampled {
             hall,

@@ -5,8 +5,7 @@ use native.Mathlib.Omega.{arith}
 use mathlib.Core.Path.{◌≡◌, refl}
 use borrow.Author.Tests.{lt-ltb, le-ltb}
 use Rattle.images.specs.Image.{fifteen}
-use Rattle.images.specs.Choice.{choice}
-use Rattle.images.specs.declared.choice.Choice.{Choice}
+use Rattle.images.specs.Choice.{Choice, choice}
 
 pub record Chosen (count : ℕ) (c : Choice) : Type 0 where
   pub number : c.number ≡ 0

@@ -1,43 +1,38 @@
--- The blocks that the writer is handed: how long their bodies are.
-use Prim.Native.Nat.{ℕ, ◌*◌, ◌/◌, ◌≤◌, min}
-use mathlib.Core.Bool.{Bool, true, false}
-use mathlib.Core.Path.{◌≡◌, refl, ap}
-use mathlib.Core.List.{List}
+-- How many bytes the entries and bodies of the blocks have that the writer is handed.
+use Prim.Native.Nat.{ℕ, zero, suc, ◌+◌, ◌*◌, ◌≤◌}
+use native.Mathlib.Numerals.{add-one}
 use native.Mathlib.Omega.{arith}
-use lib.Dec.{ltb}
-use lib.ListN.{length, take, length-take}
-use lib.Seq.{take_all, take-length}
-use borrow.Author.Tests.{ltb-true, ltb-false}
-use Rattle.numbers.specs.Bytes.{words}
+use mathlib.Core.Path.{◌≡◌, refl}
+use mathlib.Core.List.{List}
+use lib.ListN.{length, get_or, take, length-append}
+use lib.Seq.{take_all}
+use Rattle.std.specs.Prelude.{sum_by}
+use Rattle.std.proofs.lemmas.List.Sums.{sum_by_more, sum-map}
 use Rattle.numbers.proofs.Bytes.{length-words}
-use Rattle.images.specs.Image.{body_of}
-use Rattle.images.specs.Writes.{stored_of}
-use Rattle.images.specs.declared.Block.{Block}
+use Rattle.images.specs.Image.{fifteen, pieces, body_of, bodies}
+use Rattle.images.specs.Writes.{Block, no_block, stored_of, stored_in, image_in}
+use Rattle.images.proofs.Lengths.{length-image}
 
-pub length-filled : (b : Block) → b.filled ≡ true → length (body_of (stored_of b)) ≡ 2 * min b.count (length b.numbers)
-length-filled b full = rw (full, length-words, length-take)
+-- of one block
+abbrev pub size : Block → ℕ
+size block = 5 + length (body_of (stored_of block))
 
-pub length-empty : (b : Block) → b.filled ≡ false → length (body_of (stored_of b)) ≡ 0
-length-empty b none = rw none
+-- of the first k
+sizes : (blocks : List Block) (k : ℕ) → k ≤ length blocks
+    → 5 * k + length (bodies (stored_in blocks) k) ≡ sum_by size (take k blocks)
+unfolding pieces
+sizes blocks zero inside = refl
+sizes blocks (suc k) inside =
+    let more : sum_by size (take (suc k) blocks) ≡ sum_by size (take k blocks) + size (get_or blocks k no_block) =
+    rw add-one at (sum_by_more size blocks k no_block inside) in
+    rw (length-append, more) (omega (arith, sizes blocks k (omega arith)))
 
-take_min : (n : ℕ) (l : List ℕ) → take (min n (length l)) l ≡ take n l
-take_min n l = by (ltb n (length l)) refl
-  where
-    by : (t : Bool) → ltb n (length l) ≡ t → take (min n (length l)) l ≡ take n l
-    by true e = let fewer : min n (length l) ≡ n = omega (arith, ltb-true n (length l) e) in rw fewer
-    by false e =
-        let past : length l ≤ n = ltb-false n (length l) e in
-        let all : min n (length l) ≡ length l = omega arith in
-        rw (all, take-length l, take_all n l past)
+pub length-image_in : (blocks : List Block) → length blocks ≡ 15 → length (image_in blocks) ≡ sum_by size blocks
+unfolding image_in
+length-image_in blocks all =
+    let whole = take_all 15 blocks (omega arith) in
+    rw (length-image fifteen (stored_in blocks)) (rw whole at (sizes blocks 15 (omega arith)))
 
--- the numbers that a block holds are as many as half its body is long
-pub held : (b : Block) → length b.numbers ≡ 25
-    → words (take (length (body_of (stored_of b)) / 2) b.numbers) ≡ body_of (stored_of b)
-unfolding words
-held b all = by b.filled refl
-  where
-    by : (t : Bool) → b.filled ≡ t → words (take (length (body_of (stored_of b)) / 2) b.numbers) ≡ body_of (stored_of b)
-    by true full =
-        let half : length (body_of (stored_of b)) / 2 ≡ min b.count (length b.numbers) = omega (arith, length-filled b full) in
-        rw (half, full) (ap words (take_min b.count b.numbers))
-    by false none = rw none
+pub ruleset doubled = (length-words)
+
+pub ruleset summed = (sum-map, length-image_in)

@@ -1,7 +1,7 @@
 -- The rows of the blocks, taken from the last to the first.
-use Prim.Native.Nat.{ℕ, zero, suc, ◌+◌, ◌-◌, ◌≤◌, ◌<◌}
+use Prim.Native.Nat.{ℕ, zero, suc, ◌+◌, ◌≤◌, ◌<◌}
 use mathlib.Core.Bool.{Bool, true, false}
-use mathlib.Core.Path.{◌≡◌, refl}
+use mathlib.Core.Path.{◌≡◌, refl, sym, ap, ◌∙◌}
 use native.Mathlib.Numerals.{add-one}
 use native.Mathlib.Omega.{arith}
 use mathlib.Core.List.{List, [], ◌∷◌}
@@ -9,10 +9,12 @@ use lib.Dec.{ltb}
 use lib.ListN.{length, get_or, drop, drop_of_length-le}
 use lib.Seq.{drop-cons}
 use borrow.Author.Tests.{ltb-false}
-use Rattle.verdicts.specs.Table.{Row, row, first, verdict}
-use Rattle.verdicts.specs.declared.Verdict.{Verdict}
-use Rattle.images.specs.Writes.{no_block, other_length, length_rows, image_in, write_rows}
-use Rattle.images.specs.declared.Block.{Block}
+use Rattle.std.specs.Prelude.{cond, Result, Ok, Err}
+use Rattle.verdicts.specs.declared.Refusal.{Refusal}
+use Rattle.verdicts.specs.declared.Refusal.TheVariants.{Setting, Line}
+use Rattle.verdicts.specs.Table.{Verdict, Row, row, first, verdict, verdict_of}
+use Rattle.images.proofs.Told.{passed}
+use Rattle.images.specs.Writes.{Block, no_block, other_length, length_rows, image_in, write_rows}
 
 -- what the rows of the blocks from the k-th on say, and the later ones
 unfoldable pub from : List Block → List Row → ℕ → Verdict
@@ -31,21 +33,33 @@ pub none_left : (blocks : List Block) (later : List Row) (k : ℕ) → length bl
 unfolding from length_rows
 none_left blocks later k past = rw (drop_of_length-le blocks past)
 
--- the row of the block before this place
-pub row_at :
-    (blocks : List Block) (later : List Row) (place : ℕ)
-    → 0 < place
-    → place ≤ length blocks
-    → from blocks later (place - 1) ≡ first (row 2 place (other_length (get_or blocks (place - 1) no_block))) (from blocks later place)
-row_at blocks later zero some within = elim some [ ]
-row_at blocks later (suc k) some within =
-    let before : suc k - 1 ≡ k = omega arith in rw (before, one_more blocks later k within, add-one k)
+-- a turn of the code's loop: it stops at a block whose row holds, and else the rows behind it say the rest
+module _ (blocks : List Block) (later : List Row) (k : ℕ) (inside : k < length blocks) where
+  abbrev turn : Result (Unit {0}) Refusal
+  turn = cond (other_length (get_or blocks k no_block)) (Err (Setting (k + 1))) (Ok tt)
+
+  pub stopped : (refusal : Refusal) → Err refusal ≡ turn → verdict_of (Err refusal) ≡ from blocks later k
+  stopped refusal is = by (other_length (get_or blocks k no_block)) refl
+    where
+      by : (t : Bool) → other_length (get_or blocks k no_block) ≡ t → verdict_of (Err refusal) ≡ from blocks later k
+      by true bad = ap verdict_of (rw bad at is) ∙ sym (rw bad at (one_more blocks later k inside))
+      by false good = let never : ◌≡◌ {A = Result (Unit {0}) Refusal} (Err refusal) (Ok tt) = rw good at is in cc
+
+  pub gone_on : (u : Unit {0}) → Ok u ≡ turn → from blocks later (k + 1) ≡ from blocks later k
+  gone_on u is = rw (add-one, one_more blocks later k inside, passed _ _ is)
+
+-- and behind them all the row of the lent bytes
+pub later_row : (short : Bool) → verdict_of (cond short (Err (Line 0)) (Ok tt)) ≡ verdict (row 5 0 short ∷ [])
+later_row true = refl
+later_row false = refl
+
+pub ruleset turns = (stopped, gone_on, none_left, later_row)
 
 -- a row of number 2 before others: where nothing is refused, it does not hold
-passed : (holds : Bool) (place : ℕ) (rest : Verdict) → (first (row 2 place holds) rest).number ≡ 0
+one_passed : (holds : Bool) (place : ℕ) (rest : Verdict) → (first (row 2 place holds) rest).number ≡ 0
     → (holds ≡ false) × (rest.number ≡ 0)
-passed true place rest none = absurd (omega arith)
-passed false place rest none = (refl, none)
+one_passed true place rest none = absurd (omega arith)
+one_passed false place rest none = (refl, none)
 
 -- each of these blocks has a length that is allowed
 abbrev pub EachAllowed : List Block → Type 0
@@ -63,7 +77,7 @@ pub all_passed :
 unfolding length_rows
 all_passed place [] later none = (λ k inside. absurd (omega arith), none)
 all_passed place (b ∷ blocks) later none =
-    let now = passed (other_length b) (place + 1) (verdict (length_rows (place + 1 + 1) blocks later)) none in
+    let now = one_passed (other_length b) (place + 1) (verdict (length_rows (place + 1 + 1) blocks later)) none in
     let rest = all_passed (place + 1) blocks later now.1 in
     (one_first b blocks now.0 rest.0, rest.1)
 

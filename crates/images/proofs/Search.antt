@@ -2,15 +2,20 @@
 use Prim.Native.Nat.{ℕ, ◌+◌, ◌/◌, ◌≤◌, ◌<◌}
 use native.Mathlib.Omega.{arith}
 use mathlib.Core.Path.{◌≡◌, refl}
-use mathlib.Core.Bool.{Bool, true, false, ◌&&◌, ◌||◌}
+use mathlib.Core.Bool.{Bool, true, false, not, ◌&&◌, ◌||◌}
 use mathlib.Core.List.{List}
 use lib.Dec.{eqb, leb, eqb→eq}
 use lib.ListN.{length, length-take, length-drop}
 use borrow.Author.Tests.{eqb-true, leb-true, leb-false}
 use Rattle.numbers.proofs.Tests.{or_cases}
+use Rattle.std.specs.Prelude.{Result, Ok, Err, IfOk, ◌-◌}
+use Rattle.std.specs.Result.{result_unwrap_or}
+use Rattle.std.specs.declared.ops.Range.{Range}
+use Rattle.verdicts.specs.declared.Refusal.{Refusal}
+use Rattle.std.proofs.lemmas.Bool.{not-false}
 use Rattle.images.specs.Image.{Form, front, entry_at}
 use Rattle.images.specs.Table.{begins, kind_at, ends, tabled, well_formed, is_filled, start_at, size_at}
-use Rattle.images.specs.Reads.{found_of, found, part}
+use Rattle.images.specs.Reads.{found_of, found_by, found, part}
 use Rattle.images.proofs.Table.{both, Entry, zeros, body, tabled_gives, inside}
 
 -- what it is to be found: the four ways
@@ -56,6 +61,31 @@ found_inside begun before blocks image block = by (way (begun && tabled before b
     by (there formed below full is) =
         let t = tabled_gives before blocks image (both begun _ formed).1 in
         rw is (inside before blocks image t block below (eqb-true _ _ full))
+
+-- and so of a block that no row of the reader refuses
+pub passed_inside :
+    (begun : Bool) (before blocks : ℕ) (image : List ℕ) (block : ℕ)
+    → not (begun && tabled before blocks image) ≡ false
+    → leb blocks block ≡ false
+    → not (is_filled before image block) ≡ false
+    → start_at before image block + size_at before image block ≤ length image
+unfolding found_of
+passed_inside begun before blocks image block formed below full =
+    rw (not-false _ formed, below, not-false _ full) at (found_inside begun before blocks image block)
+
+-- the part that the code takes: what is found, and of a refused search the empty part at the first byte
+pub record Taken (r : Result (Range ℕ) Refusal) (place : Range ℕ) (whole : ℕ) : Type 0 where
+  pub rises : place.start ≤ place.end
+  pub within : place.end ≤ whole
+  pub start : (found_by r).start ≡ place.start
+  pub size : (found_by r).size ≡ place.end - place.start
+
+pub taken :
+    (r : Result (Range ℕ) Refusal) (whole : ℕ)
+    → IfOk r (λ place. (place.start ≤ place.end) × (place.end ≤ whole))
+    → Taken r (result_unwrap_or r (record { start = 0; end = 0 })) whole
+taken (Ok place) whole inside = record { rises = inside.0; within = inside.1; start = refl; size = refl }
+taken (Err refusal) whole inside = record { rises = omega arith; within = omega arith; start = refl; size = refl }
 
 -- what is known of a block that is found: its entry says where it lies, inside the image, and it has 48 or 50 bytes
 pub record Located (form : Form) (image : List ℕ) (block : ℕ) : Type 0 where

@@ -3,12 +3,12 @@ use Prim.Native.Nat.{ℕ, zero, suc, ◌+◌, ◌≤◌, ◌<◌}
 use native.Mathlib.Nat.{eq-or-lt_of_le}
 use native.Mathlib.Omega.{arith}
 use mathlib.Core.Logic.{⊎_elim}
-use mathlib.Core.Path.{◌≡◌, refl}
+use mathlib.Core.Path.{◌≡◌, refl, sym, ◌∙◌}
 use mathlib.Core.Bool.{Bool, true, false, ◌&&◌, ◌||◌}
 use mathlib.Core.List.{List}
 use lib.Dec.{eqb, leb}
 use lib.ListN.{length}
-use borrow.Author.Tests.{eqb-true, leb-true}
+use borrow.Author.Tests.{eqb-true, leb-true, lt-leb, le-leb}
 use Rattle.images.specs.Image.{entry_at}
 use Rattle.images.specs.Table.{kind_at, offset_at, length_at, keeps, ends, kept, tabled}
 
@@ -44,6 +44,30 @@ module _ (before blocks : ℕ) (image : List ℕ) where
       let two = both (kept before blocks image m) _ h in
       let upto : k ≤ m = omega arith in
       ⊎_elim (λ same. rw same two.1) (λ less. kept_at m k two.0 less) (eq-or-lt_of_le upto)
+
+  -- what the code's walk over the entries comes to: too few bytes, an entry that breaks its rule, and where the last body ends
+  pub too_short : length image < entry_at before blocks → tabled before blocks image ≡ false
+  unfolding tabled
+  too_short few = rw (lt-leb _ _ few)
+
+  pub broken : (k : ℕ) → k < blocks → keeps image (entry_at before k) (ends before blocks image k) ≡ false
+      → tabled before blocks image ≡ false
+  unfolding tabled
+  broken k below bad = by (kept before blocks image blocks) refl
+    where
+      by : (t : Bool) → kept before blocks image blocks ≡ t
+          → (leb (entry_at before blocks) (length image) && (t && eqb (ends before blocks image blocks) (length image))) ≡ false
+      by true all = let z : true ≡ false = sym (kept_at blocks k all below) ∙ bad in cc
+      by false some = by_room (leb (entry_at before blocks) (length image))
+        where
+          by_room : (room : Bool) → (room && false) ≡ false
+          by_room true = refl
+          by_room false = refl
+
+  pub walked : entry_at before blocks ≤ length image → kept before blocks image blocks ≡ true
+      → tabled before blocks image ≡ eqb (ends before blocks image blocks) (length image)
+  unfolding tabled
+  walked room all = rw (le-leb _ _ room, all)
 
   pub ends_rise : (m k : ℕ) → k ≤ m → ends before blocks image k ≤ ends before blocks image m
   unfolding ends
@@ -81,3 +105,5 @@ module _ (before blocks : ℕ) (image : List ℕ) where
       by (zeros kind offset size) = absurd (omega (arith, kind, full))
       by (body kind offset size) =
           let upto : suc k ≤ blocks = below in omega (arith, ends_rise blocks (suc k) upto, t.whole, offset)
+
+pub ruleset walk = (too_short, broken, walked)

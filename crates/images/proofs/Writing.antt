@@ -12,9 +12,8 @@ use borrow.Author.Tests.{ne_eqb, lt-ltb, le-ltb}
 use Rattle.verdicts.specs.Table.{Row, row, verdict}
 use Rattle.images.specs.Image.{fifteen, body_of}
 use Rattle.images.specs.Reads.{number_of, found, part}
-use Rattle.images.specs.Writes.{Handed, no_block, stored_in, other_length, length_rows, image_in, write_rows, is_written, written}
+use Rattle.images.specs.Writes.{Block, Handed, no_block, stored_in, other_length, length_rows, image_in, write_rows, is_written, written}
 use Rattle.images.specs.Writes.{lent_after}
-use Rattle.images.specs.declared.Block.{Block}
 use Rattle.images.proofs.Rows.{EachAllowed}
 use Rattle.images.proofs.Inverse.{reader_returns}
 use Rattle.images.proofs.Made.{allowed_blocks}

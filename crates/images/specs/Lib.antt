@@ -1,5 +1,6 @@
 pub mod Image
 pub mod Table
+pub mod Told
 pub mod Reads
 pub mod Writes
 pub mod Choice

@@ -1,10 +1,18 @@
 -- Document 02, M-102: the reader. "The reader gives back the part of the caller's image that holds the block; refused, an empty part."
-use Rattle.std.specs.Prelude.{ℕ, ◌+◌, Bool, not, cond, List, [], ◌∷◌, ◌≡◌, eqb, leb, take, drop}
+use Rattle.std.specs.Prelude.{ℕ, ◌+◌, ◌-◌, Result, Ok, Err, Bool, not, cond, List, [], ◌∷◌, ◌≡◌, eqb, leb, take, drop}
 use Rattle.std.specs.Borrow.{Bor}
+use Rattle.std.specs.declared.ops.Range.{Range}
+use Rattle.verdicts.specs.declared.Refusal.{Refusal}
 use Rattle.verdicts.specs.Table.{Row, row, verdict}
 use Rattle.images.specs.Image.{Form, front, Stored, empty, filled}
 use Rattle.images.specs.Table.{well_formed, is_filled, start_at, size_at}
-use Rattle.images.specs.declared.reader.Found.{Found}
+use Rattle.images.specs.Told.{told_by}
+
+-- what the search for a block comes to: the number of its refusal or 0, and where in the image its body lies
+pub record Found : Type 0 where
+  pub number : ℕ
+  pub start : ℕ
+  pub size : ℕ
 
 -- the entries stand behind so many bytes, and there are so many blocks; `formed` says that the image is well-formed
 module _ (formed : Bool) (before blocks : ℕ) (image : List ℕ) (block : ℕ) where
@@ -21,6 +29,18 @@ module _ (formed : Bool) (before blocks : ℕ) (image : List ℕ) (block : ℕ) 
         start = cond read (start_at before image block) 0;
         size = cond read (size_at before image block) 0;
       }
+
+-- what the code's search tells: a part of the image, or a refusal
+abbrev pub start_in : Result (Range ℕ) Refusal → ℕ
+start_in (Ok place) = place.start
+start_in (Err refusal) = 0
+
+abbrev pub size_in : Result (Range ℕ) Refusal → ℕ
+size_in (Ok place) = place.end - place.start
+size_in (Err refusal) = 0
+
+abbrev pub found_by : Result (Range ℕ) Refusal → Found
+found_by r = record { number = (told_by r).number; start = start_in r; size = size_in r }
 
 module _ (form : Form) (image : List ℕ) (block : ℕ) where
   abbrev pub read_rows : List Row

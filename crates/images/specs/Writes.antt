@@ -1,31 +1,42 @@
 -- Document 02, M-102: the writer, and what it is handed.
-use Rattle.std.specs.Prelude.{ℕ, ◌+◌, ◌<◌, Bool, false, ◌&&◌, not, cond, ◌≡◌, List, [], ◌∷◌, ◌++◌, eqb, ltb, length, get_or, take, drop}
+use Rattle.std.specs.Prelude.{ℕ, ◌+◌, ◌<◌, Bool, false, not, cond, ◌≡◌, List, [], ◌∷◌, ◌++◌, eqb, ltb, length, get_or, take, drop}
+use Rattle.std.specs.Prelude.{Option, None, Some, Result}
+use Rattle.verdicts.specs.declared.Refusal.{Refusal}
 use Rattle.verdicts.specs.Table.{Row, row, verdict}
 use Rattle.images.specs.Image.{fifteen, Stored, empty, filled, Blocks, length_allowed, image_of}
-use Rattle.images.specs.declared.Block.{Block}
-use Rattle.images.specs.declared.writer.Written.{Written}
+use Rattle.images.specs.declared.Filled.{Filled}
+use Rattle.images.specs.Told.{told_by, value_of}
 
--- what a block of the caller's holds: it is marked empty, or its first `count` numbers
+-- a block of the caller's: it is empty, or filled
+abbrev pub Block : Type 0
+Block = Option Filled
+
+-- what it holds: of a filled one its first `count` numbers
 abbrev pub stored_of : Block → Stored
-stored_of b = cond b.filled (filled (take b.count b.numbers)) empty
+stored_of None = empty
+stored_of (Some f) = filled (take f.count f.numbers)
 
 -- past the last block there is none
 abbrev pub no_block : Block
-no_block = record { filled = false; count = 0; numbers = [] }
+no_block = None
 
 abbrev pub stored_in : List Block → Blocks
 stored_in blocks k = stored_of (get_or blocks k no_block)
 
--- what a caller can hand over, as the code's type has it: fifteen blocks, each with a count of one byte and an array of 25 numbers of two
+-- what a caller can put into a filled block, as the code's type has it: a count of one byte and an array of 25 numbers of two
+abbrev pub Fits : Block → Type 0
+Fits None = Unit {0}
+Fits (Some f) = (f.count < 256) × (length f.numbers ≡ 25) × ((i : ℕ) → get_or f.numbers i 0 < 65536)
+
+-- and hand over: fifteen blocks
 pub record Handed (blocks : List Block) : Type 0 where
   pub fifteen_blocks : length blocks ≡ 15
-  pub count_fits : (k : ℕ) → k < 15 → (get_or blocks k no_block).count < 256
-  pub numbers_each : (k : ℕ) → k < 15 → length (get_or blocks k no_block).numbers ≡ 25
-  pub numbers_fit : (k : ℕ) → k < 15 → (i : ℕ) → get_or (get_or blocks k no_block).numbers i 0 < 65536
+  pub each_fits : (k : ℕ) → k < 15 → Fits (get_or blocks k no_block)
 
 -- "a body of another length": a filled block whose count is neither 24 nor 25
 abbrev pub other_length : Block → Bool
-other_length b = b.filled && not (length_allowed b.count)
+other_length None = false
+other_length (Some f) = not (length_allowed f.count)
 
 -- "Writing: a body of another length is 2 at block + 1": the rows of these blocks, the first of them at this place, and then later ones
 unfoldable pub length_rows : ℕ → List Block → List Row → List Row
@@ -43,6 +54,11 @@ write_rows blocks lent = length_rows 1 blocks (row 5 0 (ltb lent (length (image_
 abbrev pub is_written : List Block → ℕ → Bool
 is_written blocks lent = eqb (verdict (write_rows blocks lent)).number 0
 
+pub record Written : Type 0 where
+  pub number : ℕ
+  pub place : ℕ
+  pub size : ℕ
+
 -- number, place and the image's length, "a refused value is 0"
 unfoldable pub written : List Block → ℕ → Written
 written blocks lent =
@@ -51,6 +67,10 @@ written blocks lent =
       place = (verdict (write_rows blocks lent)).place;
       size = cond (is_written blocks lent) (length (image_in blocks)) 0;
     }
+
+-- what the code's result tells
+abbrev pub written_of : Result ℕ Refusal → Written
+written_of r = record { number = (told_by r).number; place = (told_by r).place; size = value_of r }
 
 -- the lent bytes: the image, and after it what they held; refused, every lent byte stands
 unfoldable pub lent_after : List Block → List ℕ → List ℕ

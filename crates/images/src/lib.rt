@@ -14,10 +14,12 @@ pub(crate) const ENTRY_SIZE: usize = 5;
 // The most numbers that a block can hold.
 pub const MOST_NUMBERS: usize = 25;
 
-// A block as the writer is handed it: empty, or filled with its first `count` numbers.
+// What a filled block holds: its first `count` numbers. No slice in place of the two: a count above 25 is handed over, too, and refused.
 #[derive(Clone, Copy)]
-pub struct Block {
-    pub filled: bool,
+pub struct Filled {
     pub count: u8,
     pub numbers: [u16; MOST_NUMBERS],
 }
+
+// A block as the writer is handed it: empty, or filled.
+pub type Block = Option<Filled>;

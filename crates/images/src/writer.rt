@@ -1,165 +1,134 @@
 // The writer: fifteen blocks into lent bytes.
-ghost use Rattle.std.specs.Prelude.{◌≡◌, [], ◌∷◌, ◌≤◌, ◌<◌, length, take};
+ghost use Rattle.std.specs.Prelude.{◌≡◌, [], ◌∷◌, ◌≤◌, length, take};
 ghost use Rattle.numbers.specs.Bytes.{words};
 ghost use Rattle.text.proofs.Chains.{Puts};
-ghost use Rattle.verdicts.specs.Table.{row, verdict};
+ghost use Rattle.verdicts.specs.Table.{row, verdict, verdict_of};
 ghost use Rattle.images.specs.Image.{fifteen, body_of, entry_of, entries, bodies};
-ghost use Rattle.images.specs.Writes.{stored_of, stored_in, other_length, length_rows, image_in, written, lent_after};
+ghost use Rattle.images.specs.Writes.{stored_of, stored_in, other_length, length_rows, image_in, written, written_of, lent_after};
 
-use crate::{BLOCKS, Block, ENTRY_SIZE, MOST_NUMBERS};
+use crate::{BLOCKS, Block, ENTRY_SIZE, Filled, MOST_NUMBERS};
 use numbers::word_of;
 use text::put;
-use verdicts::{ACCEPTED, Verdict, first};
-
-// Number and place of the refusal, or 0 and 0, and how many of the lent bytes are the image.
-#[derive(Clone, Copy)]
-pub struct Written {
-    pub number: u8,
-    pub place: u8,
-    pub size: usize,
-}
+use verdicts::{Refusal, refuse};
 
 // A filled block whose count is neither 24 nor 25.
-fn other_length(block: Block) -> bool
-    ensures { result ≡ other_length block }
+fn other_length(block: &Block) -> bool
+    ensures { result ≡ other_length block.now }
 {
-    block.filled & !((block.count == 24) | (block.count == 25))
+    match block {
+        Some(filled) => filled.count != 24 && filled.count != 25,
+        None => false,
+    }
 }
 
 // The first refusal of the blocks and, behind theirs, that of the lent bytes.
-fn verdict(blocks: [Block; BLOCKS], short: bool) -> Verdict
-    ensures { result ≡ verdict (length_rows 1 blocks (row 5 0 short ∷ [])) }
+#[tactic(auto, using(crate::proofs::Rows::turns), unfolding(crate::proofs::Rows::from))]
+fn verdict(blocks: &[Block; BLOCKS], short: bool) -> Result<(), Refusal>
+    ensures { verdict_of result ≡ verdict (length_rows 1 blocks.now (row 5 0 short ∷ [])) }
 {
-    let mut found = first(5, 0, short, ACCEPTED);
-    let mut place: usize = BLOCKS;
-    while 0 < place {
-        let block = blocks[place - 1];
-        found = first(2, place as u8, other_length(block), found);
-        place -= 1;
+    for (k, block) in blocks.iter().enumerate() {
+        refuse(Refusal::Setting(k as u8 + 1), other_length(block))?;
     }
-    found
+    refuse(Refusal::Line(0), short)
+}
+
+impl Filled {
+    // As many numbers as it counts, and no more than it has.
+    fn held(&self) -> &[u16]
+        ensures { (result.now ≡ take self.now.count self.now.numbers) × (length result.now ≤ 25) }
+    {
+        &self.numbers[..(self.count as usize).min(MOST_NUMBERS)]
+    }
+}
+
+#[tactic(auto, unfolding(numbers::specs::Bytes::words))]
+fn held(block: &Block) -> &[u16]
+    ensures { (words result.now ≡ body_of (stored_of block.now)) × (length result.now ≤ 25) }
+{
+    match block {
+        Some(filled) => filled.held(),
+        None => &[],
+    }
 }
 
 // How many bytes the body of a block has.
-fn size_of(block: Block) -> usize
-    ensures { (result ≡ length (body_of (stored_of block))) × (result ≤ 50) }
+#[tactic(auto, using(crate::proofs::Given::doubled))]
+fn size_of(block: &Block) -> u16
+    ensures { (result ≡ length (body_of (stored_of block.now))) × (result ≤ 50) }
 {
-    if block.filled {
-        let count = block.count as usize;
-        if count < MOST_NUMBERS {
-            return 2 * count;
-        }
-        return 2 * MOST_NUMBERS;
-    }
-    0
+    2 * held(block).len() as u16
 }
 
-fn image_size(blocks: [Block; BLOCKS]) -> usize
-    ensures { result ≡ length (image_in blocks) }
+// An entry and a body for each block.
+#[tactic(auto, using(crate::proofs::Given::summed))]
+fn image_size(blocks: &[Block; BLOCKS]) -> usize
+    ensures { result ≡ length (image_in blocks.now) }
 {
-    let mut end = ENTRY_SIZE * BLOCKS;
-    let mut k: usize = 0;
-    while k < BLOCKS {
-        let block = blocks[k];
-        end += size_of(block);
-        k += 1;
-    }
-    end
+    blocks
+        .iter()
+        .map(|block| ENTRY_SIZE + size_of(block) as usize)
+        .sum()
 }
 
 // The entry of a block whose body begins at this place.
-fn entry(block: Block, start: usize) -> [u8; ENTRY_SIZE]
-    requires { start < 65536 }
-    ensures { result ≡ entry_of (stored_of block) start }
+fn entry(block: &Block, start: u16) -> [u8; ENTRY_SIZE]
+    ensures { result ≡ entry_of (stored_of block.now) start }
 {
-    if block.filled {
-        let size = size_of(block);
-        return [
-            1,
-            (start / 256) as u8,
-            (start % 256) as u8,
-            (size / 256) as u8,
-            (size % 256) as u8,
-        ];
+    if block.is_none() {
+        return [0; ENTRY_SIZE];
     }
-    [0, 0, 0, 0, 0]
+    let [offset, low_offset] = start.to_be_bytes();
+    let [size, low_size] = size_of(block).to_be_bytes();
+    [1, offset, low_offset, size, low_size]
 }
 
 // Puts all entries from the first lent byte on, and tells the place behind them. Each writer here puts what fits.
-fn put_entries(lent: &mut [u8], blocks: [Block; BLOCKS]) -> usize
-    ensures { Puts 0 (entries fifteen (stored_in blocks) 15) lent.old result lent.new }
+#[tactic(auto, using(crate::proofs::Puts::chain))]
+fn put_entries(lent: &mut [u8], blocks: &[Block; BLOCKS]) -> usize
+    ensures { Puts 0 (entries fifteen (stored_in blocks.now) 15) lent.old result lent.new }
 {
     let mut at: usize = 0;
-    let mut start = ENTRY_SIZE * BLOCKS;
-    let mut k: usize = 0;
-    while k < BLOCKS {
-        let block = blocks[k];
-        let bytes = entry(block, start);
-        at = put(lent, at, &bytes);
+    let mut start = (ENTRY_SIZE * BLOCKS) as u16;
+    for block in blocks {
+        at = put(lent, at, &entry(block, start));
         start += size_of(block);
-        k += 1;
     }
     at
 }
 
-fn put_numbers(lent: &mut [u8], at: usize, numbers: [u16; MOST_NUMBERS], count: usize) -> usize
-    requires { (at ≤ length lent.old) × (count ≤ 25) }
-    ensures { Puts at (words (take count numbers)) lent.old result lent.new }
+#[tactic(auto, using(crate::proofs::Puts::chain))]
+fn put_body(lent: &mut [u8], at: usize, block: &Block) -> usize
+    requires { at ≤ length lent.old }
+    ensures { Puts at (body_of (stored_of block.now)) lent.old result lent.new }
 {
     let mut next = at;
-    let mut i: usize = 0;
-    while i < count {
-        let bytes = word_of(numbers[i]);
-        next = put(lent, next, &bytes);
-        i += 1;
+    for number in held(block) {
+        next = put(lent, next, &word_of(*number));
     }
     next
 }
 
-fn put_body(lent: &mut [u8], at: usize, block: Block) -> usize
+#[tactic(auto, using(crate::proofs::Puts::chain))]
+fn put_bodies(lent: &mut [u8], at: usize, blocks: &[Block; BLOCKS]) -> usize
     requires { at ≤ length lent.old }
-    ensures { Puts at (body_of (stored_of block)) lent.old result lent.new }
-{
-    let size = size_of(block);
-    let numbers = block.numbers;
-    put_numbers(lent, at, numbers, size / 2)
-}
-
-fn put_bodies(lent: &mut [u8], at: usize, blocks: [Block; BLOCKS]) -> usize
-    requires { at ≤ length lent.old }
-    ensures { Puts at (bodies (stored_in blocks) 15) lent.old result lent.new }
+    ensures { Puts at (bodies (stored_in blocks.now) 15) lent.old result lent.new }
 {
     let mut next = at;
-    let mut k: usize = 0;
-    while k < BLOCKS {
-        let block = blocks[k];
+    for block in blocks {
         next = put_body(lent, next, block);
-        k += 1;
     }
     next
 }
 
-// Writes the image of the blocks into the lent bytes; refused, it writes none.
-pub fn write(blocks: [Block; BLOCKS], lent: &mut [u8]) -> Written
-    ensures told { result ≡ written blocks (length lent.old) }
+// Writes the image of the blocks into the lent bytes, and tells how many they are; refused, it writes none.
+#[tactic(auto, using(crate::proofs::Replies::writing))]
+pub fn write(blocks: [Block; BLOCKS], lent: &mut [u8]) -> Result<usize, Refusal>
+    ensures told { written_of result ≡ written blocks (length lent.old) }
     ensures lent { lent.new ≡ lent_after blocks lent.old }
 {
-    let size = image_size(blocks);
-    let verdict = verdict(blocks, lent.len() < size);
-    let number = verdict.number;
-    let place = verdict.place;
-    if number == 0 {
-        let at = put_entries(lent, blocks);
-        put_bodies(lent, at, blocks);
-        return Written {
-            number,
-            place,
-            size,
-        };
-    }
-    Written {
-        number,
-        place,
-        size: 0,
-    }
+    let size = image_size(&blocks);
+    verdict(&blocks, lent.len() < size)?;
+    let at = put_entries(lent, &blocks);
+    put_bodies(lent, at, &blocks);
+    Ok(size)
 }

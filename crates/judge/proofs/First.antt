@@ -3,16 +3,20 @@
 use Prim.Native.Nat.{ℕ, suc, ◌≤◌}
 use native.Mathlib.Omega.{arith}
 use mathlib.Core.Path.{◌≡◌, refl, ap, sym, ◌∙◌}
-use mathlib.Core.Bool.{Bool, true, false, not, ◌&&◌, cond}
+use mathlib.Core.Bool.{Bool, true, false, not, ◌&&◌}
 use mathlib.Core.List.{List, [], ◌∷◌}
-use lib.Dec.{T, eqb}
+use lib.Dec.{T}
 use lib.ListN.{length}
-use borrow.Author.Tests.{eqb-true, eqb-false}
+use Rattle.std.specs.Prelude.{Option, Some, None}
+use Rattle.std.specs.Option.{option_or}
+use Rattle.std.specs.Bool.{then_some}
+use Rattle.std.proofs.lemmas.Option.{none-some, same_Some}
+use Rattle.numbers.proofs.Tests.{never, by_test}
 use Rattle.drive.specs.AnyCall.{Call, reply}
 use Rattle.drive.specs.declared.Drive.{Drive}
 use Rattle.drive.specs.declared.answer.Answer.{Answer}
 use Rattle.lines.specs.Earlier.{line_like}
-use Rattle.lines.specs.Shown.{same_bytes, shown_by}
+use Rattle.lines.specs.Shown.{same_bytes, is_good}
 use Rattle.lines.proofs.LineOf.{same_self}
 use Rattle.theorems_history.specs.Log.{Entry}
 use Rattle.theorems_history.specs.Onlooker.{memory_of, note, notes}
@@ -22,11 +26,14 @@ use Rattle.onlooker.specs.Past.{most}
 use Rattle.onlooker.specs.Tells.{heard_of}
 use Rattle.onlooker.specs.declared.Onlooker.{Onlooker}
 use Rattle.onlooker.proofs.Follows.{tells}
-use Rattle.judge.specs.Judged.{answer_of, kept, line_for, line_kept, differs_now, breaks_now, entry_with, number_of}
+use Rattle.judge.specs.Judged.{shown_in, answer_of, kept, line_for, line_kept, differs_now, breaks_now, read_entry, number_of}
 use Rattle.judge.specs.Printed.{Printed, judge_all, board_log, Readable, Supervised}
+use Rattle.judge.specs.declared.Judge.{Judge}
+use Rattle.judge.specs.declared.Difference.{Difference}
+use Rattle.judge.specs.declared.Breach.{Breach}
 use Rattle.judge.specs.First.{First, newest, earlier, Kept}
 use Rattle.judge.proofs.Forms.{line_for_lem}
-use Rattle.judge.proofs.Silent.{said, hearing, read, drive_is, heard_is, length-log, heard_now}
+use Rattle.judge.proofs.Silent.{said, hearing, drive_is, heard_is, length-log, heard_now}
 use Rattle.judge.proofs.Silent.{no_line_differs, no_call_breaks}
 
 -- what is known of the calls: every line can be read, and 64 bits can number them
@@ -37,44 +44,50 @@ earlier_judged : (p : Printed) (before : List Printed) → Judged (p ∷ before)
 unfolding Readable
 earlier_judged p before (readable, few) = (readable.1, omega arith)
 
--- a number that is 0 gets this one where a test fails, and any other stays
-abbrev Once : ℕ → ℕ → ℕ → Type 0 → Type 0
-Once before now number Passes =
-    (before ≡ 0 → (now ≡ 0 → ⊥) → (now ≡ number) × (Passes → ⊥)) × ((before ≡ 0 → ⊥) → now ≡ before)
+-- the numbers of what is named
+abbrev number_of_difference : Difference → ℕ
+number_of_difference first = first.number
 
-once : (good : Bool) (before number : ℕ) (right : Bool) → T good
-    → Once before (cond (good && eqb before 0 && not right) number before) number (T right)
-once false before number right is = absurd is
-once true before number right is = go (eqb before 0) refl right
-  where
-    go : (none : Bool) → eqb before 0 ≡ none → (r : Bool) → Once before (cond (none && not r) number before) number (T r)
-    go true z true = (λ zero some. absurd (some zero), λ some. refl)
-    go true z false = (λ zero some. (refl, λ p. p), λ some. absurd (some (eqb-true before 0 z)))
-    go false z r = (λ zero some. absurd (eqb-false before 0 z zero), λ some. refl)
+abbrev number_of_breach : Breach → ℕ
+number_of_breach first = first.number
+
+-- where nothing was named, what is named now has this number and a test fails; what was named stays
+abbrev Once : {A : Type 0} → (A → ℕ) → Option A → Option A → ℕ → Type 0 → Type 0
+Once {A} number before now place Passes =
+    (before ≡ None → (new : A) → now ≡ Some new → (number new ≡ place) × (Passes → ⊥))
+    × ((named : A) → before ≡ Some named → now ≡ Some named)
+
+once : {A : Type 0} (number : A → ℕ) (before : Option A) (right : Bool) (new : A)
+    → Once number before (option_or before (then_some (not right) new)) (number new) (T right)
+once number (Some named) right new = (λ none. cc, λ _ is. is)
+once number None true new = (λ _ _ some. cc, λ _ is. cc)
+once number None false new = (λ _ named some. (ap number (sym (same_Some new named some)), λ passes. passes), λ _ is. cc)
 
 -- One law for both, the lines and the demand: what is right of all calls while nothing is named ceases with the one that is.
 module _
+    {A : Type 0}
+    (number : A → ℕ)
     (Right : List Printed → Type 0)
-    (named : List Printed → ℕ)
-    (none-at-first : named [] ≡ 0)
-    (quiet : (ps : List Printed) → Judged ps → named ps ≡ 0 → Right ps)
+    (named : List Printed → Option A)
+    (none-at-first : named [] ≡ None)
+    (quiet : (ps : List Printed) → Judged ps → named ps ≡ None → Right ps)
     (step : (p : Printed) (before : List Printed) → Judged (p ∷ before)
-    → Once (named before) (named (p ∷ before)) (suc (length before)) (Right (p ∷ before)))
+    → Once number (named before) (named (p ∷ before)) (suc (length before)) (Right (p ∷ before)))
   where
-    names_the_first : (ps : List Printed) → Judged ps → (named ps ≡ 0 → ⊥) → First Right ps (named ps)
-    names_the_first [] judged some = absurd (some none-at-first)
-    names_the_first (p ∷ before) judged some =
-        go (eqb (named before) 0) refl (names_the_first before (earlier_judged p before judged))
+    names_the_first : (ps : List Printed) → Judged ps → (first : A) → named ps ≡ Some first → First Right ps (number first)
+    names_the_first [] judged first is = absurd (none-some first (sym none-at-first ∙ is))
+    names_the_first (p ∷ before) judged first is =
+        go (named before) refl (names_the_first before (earlier_judged p before judged))
       where
-        go : (none : Bool) → eqb (named before) 0 ≡ none → ((named before ≡ 0 → ⊥) → First Right before (named before))
-            → First Right (p ∷ before) (named (p ∷ before))
-        go true e others =
-            let zero = eqb-true (named before) 0 e in
-            let (is, ceases) = (step p before judged).0 zero some in
-            rw is (newest p before (quiet before (earlier_judged p before judged) zero) ceases)
-        go false e others =
-            let already = eqb-false (named before) 0 e in
-            rw ((step p before judged).1 already) (earlier p before (named before) (others already))
+        go : (known : Option A) → named before ≡ known
+            → ((other : A) → named before ≡ Some other → First Right before (number other))
+            → First Right (p ∷ before) (number first)
+        go None none others =
+            let (place, ceases) = (step p before judged).0 none first is in
+            rw place (newest p before (quiet before (earlier_judged p before judged) none) ceases)
+        go (Some other) some others =
+            let same = same_Some other first (sym ((step p before judged).1 other some) ∙ is) in
+            rw (← same) (earlier p before (number other) (others other some))
 
 -- the number that a record is named by
 number_is : (p : Printed) (before : List Printed) → Judged (p ∷ before) → number_of (judge_all before) ≡ suc (length before)
@@ -86,11 +99,12 @@ number_is p before judged =
     omega (arith, heard, length-log before, judged.1)
 
 -- what passes one test fails with it
-once_by : {before now : ℕ} {Passes Right : Type 0} (number place : ℕ) → number ≡ place → (Right → Passes)
-    → Once before now number Passes
-    → Once before now place Right
-once_by number place is passes (first, stays) =
-    (λ zero some. let (named, fails) = first zero some in (named ∙ is, λ right. fails (passes right)), stays)
+once_by : {A : Type 0} {number : A → ℕ} {before now : Option A} {Passes Right : Type 0} (named place : ℕ) → named ≡ place
+    → (Right → Passes)
+    → Once number before now named Passes
+    → Once number before now place Right
+once_by named place is passes (first, stays) =
+    (λ none new some. let (number, fails) = first none new some in (number ∙ is, λ right. fails (passes right)), stays)
 
 -- a line that is the supervisor's is found the same
 same_line : (p : Printed) (before : List Printed) → Supervised (p ∷ before)
@@ -105,22 +119,31 @@ same_line p before (is, others) =
     rw expected (same_self (line_kept p.line))
 
 differs_once : (p : Printed) (before : List Printed) → Judged (p ∷ before)
-    → Once (judge_all before).differs (judge_all (p ∷ before)).differs (suc (length before)) (Supervised (p ∷ before))
-unfolding judge_all entry_with differs_now Readable
+    → Once number_of_difference (judge_all before).differs (judge_all (p ∷ before)).differs (suc (length before))
+    (Supervised (p ∷ before))
+unfolding judge_all read_entry differs_now Readable
 differs_once p before judged =
-    once_by (number_of (judge_all before)) (suc (length before)) (number_is p before judged) (same_line p before)
-    (once (read p before) (judge_all before).differs (number_of (judge_all before))
-    (same_bytes (line_for (length p.line) (said p before).answer) (line_kept p.line)) judged.0.0)
+    let j = judge_all before in
+    let expected = line_for (length p.line) (said p before).answer in
+    let found = line_kept p.line in
+    by_test
+    (λ (after : Judge). Once number_of_difference j.differs after.differs (suc (length before)) (Supervised (p ∷ before)))
+    (is_good p.line)
+    (λ _. once_by (number_of j) (suc (length before)) (number_is p before judged) (same_line p before)
+    (once number_of_difference j.differs (same_bytes expected found)
+    (record { number = number_of j; expected = expected; found = found })))
+    (λ fails. never (is_good p.line) fails judged.0.0)
 
-no_difference_yet : (judge_all []).differs ≡ 0
+no_difference_yet : (judge_all []).differs ≡ None
 unfolding judge_all
 no_difference_yet = refl
 
 -- the line that he names is the first that is not the supervisor's
-pub first_difference : (ps : List Printed) → Judged ps → ((judge_all ps).differs ≡ 0 → ⊥)
-    → First Supervised ps (judge_all ps).differs
+pub first_difference : (ps : List Printed) → Judged ps → (first : Difference) → (judge_all ps).differs ≡ Some first
+    → First Supervised ps first.number
 first_difference =
-    names_the_first Supervised (λ ps. (judge_all ps).differs) no_difference_yet (λ ps judged. no_line_differs ps judged.0) differs_once
+    names_the_first number_of_difference Supervised (λ ps. (judge_all ps).differs) no_difference_yet
+    (λ ps judged. no_line_differs ps judged.0) differs_once
 
 -- where the board's log keeps the demand, the onlooker says so after its newest call
 holds_now : (call : Seen) (past : List Seen) → Demand3 (call ∷ past)
@@ -150,20 +173,27 @@ unfolding board_log
 kept_now p before judged all =
     let few : suc (length (board_log before)) ≤ most = omega (arith, length-log before, judged.1) in
     rw (heard_now p before (earlier_judged p before judged).0)
-    (says_kept (board_log before) (record { call = p.call; answer = answer_of (shown_by p.line) }) few all)
+    (says_kept (board_log before) (record { call = p.call; answer = answer_of (shown_in p.line) }) few all)
 
 breaks_once : (p : Printed) (before : List Printed) → Judged (p ∷ before)
-    → Once (judge_all before).breaks (judge_all (p ∷ before)).breaks (suc (length before)) (Kept (p ∷ before))
-unfolding judge_all entry_with breaks_now Readable
+    → Once number_of_breach (judge_all before).breaks (judge_all (p ∷ before)).breaks (suc (length before)) (Kept (p ∷ before))
+unfolding judge_all read_entry breaks_now Readable
 breaks_once p before judged =
-    once_by (number_of (judge_all before)) (suc (length before)) (number_is p before judged) (kept_now p before judged)
-    (once (read p before) (judge_all before).breaks (number_of (judge_all before)) (kept (hearing p before).rules) judged.0.0)
+    let j = judge_all before in
+    let rules = (hearing p before).rules in
+    by_test (λ (after : Judge). Once number_of_breach j.breaks after.breaks (suc (length before)) (Kept (p ∷ before)))
+    (is_good p.line)
+    (λ _. once_by (number_of j) (suc (length before)) (number_is p before judged) (kept_now p before judged)
+    (once number_of_breach j.breaks (kept rules) (record { number = number_of j; rules = rules })))
+    (λ fails. never (is_good p.line) fails judged.0.0)
 
-no_break_yet : (judge_all []).breaks ≡ 0
+no_break_yet : (judge_all []).breaks ≡ None
 unfolding judge_all
 no_break_yet = refl
 
 -- the call that he names is the first with which the board's log breaks demand 3
-pub first_break : (ps : List Printed) → Judged ps → ((judge_all ps).breaks ≡ 0 → ⊥) → First Kept ps (judge_all ps).breaks
+pub first_break : (ps : List Printed) → Judged ps → (first : Breach) → (judge_all ps).breaks ≡ Some first
+    → First Kept ps first.number
 first_break =
-    names_the_first Kept (λ ps. (judge_all ps).breaks) no_break_yet (λ ps judged. no_call_breaks ps judged.0 judged.1) breaks_once
+    names_the_first number_of_breach Kept (λ ps. (judge_all ps).breaks) no_break_yet
+    (λ ps judged. no_call_breaks ps judged.0 judged.1) breaks_once

@@ -18,7 +18,7 @@ use Rattle.report.specs.Line.{fields, line}
 use Rattle.report.proofs.Fields.{length-line}
 use Rattle.records.proofs.Printed.{reply_printed}
 use Rattle.lines.specs.Earlier.{earlier_length, fields_length, earlier_line, line_like}
-use Rattle.lines.specs.Shown.{shown_by}
+use Rattle.lines.specs.Shown.{is_good}
 use Rattle.lines.proofs.Earlier.{front_is, length-earlier, good_length}
 use Rattle.judge.specs.Judged.{blank, shortened, line_for, line_kept}
 
@@ -67,7 +67,7 @@ length-like size answer (inr e) = rw (e, length-line answer)
 
 pub same_found :
     (d : Drive) (call : Call) (found : List ℕ)
-    → T (shown_by found).good
+    → T (is_good found)
     → line_for (length found) (reply d call).answer ≡ line_kept found
     → found ≡ line_like (length found) (reply d call).answer
 same_found d call found good same =

@@ -1,6 +1,5 @@
-pub mod Turns
-pub mod Said
-pub mod Pages
+pub mod Runs
+pub mod Room
 pub mod Forms
 pub mod Silent
 pub mod First

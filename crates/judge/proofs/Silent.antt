@@ -1,19 +1,21 @@
 -- What it means that the judge names nothing: every line is the supervisor's, and the board's log keeps demand 3.
 use Prim.Native.Nat.{ℕ, suc, ◌≤◌}
 use native.Mathlib.Omega.{arith}
-use mathlib.Core.Path.{◌≡◌, refl, ap, subst, ◌∙◌}
-use mathlib.Core.Bool.{Bool, true, false, not, ◌&&◌, cond}
+use mathlib.Core.Path.{◌≡◌, refl, ap, sym, subst, ◌∙◌}
+use mathlib.Core.Bool.{Bool, true, false, not, ◌&&◌}
 use mathlib.Core.List.{List, [], ◌∷◌}
-use lib.Dec.{T, eqb}
+use lib.Dec.{T}
 use lib.ListN.{length}
-use borrow.Author.Tests.{eqb-false}
+use Rattle.std.specs.Prelude.{Option, Some, None}
+use Rattle.std.specs.Option.{option_or}
+use Rattle.std.specs.Bool.{then_some}
 use Rattle.numbers.proofs.Tests.{never, by_test, all_three}
 use Rattle.drive.specs.AnyCall.{Call, reply}
 use Rattle.drive.specs.declared.Drive.{Drive}
 use Rattle.drive.specs.declared.answer.Answer.{Answer}
 use Rattle.drive.specs.declared.answer.Reply.{Reply}
 use Rattle.lines.specs.Earlier.{line_like}
-use Rattle.lines.specs.Shown.{same_bytes, shown_by}
+use Rattle.lines.specs.Shown.{same_bytes, is_good}
 use Rattle.lines.proofs.LineOf.{same_equal}
 use Rattle.theorems_history.specs.Log.{Entry}
 use Rattle.theorems_history.specs.Onlooker.{memory_of, note, notes}
@@ -24,45 +26,50 @@ use Rattle.onlooker.specs.Hears.{hears}
 use Rattle.onlooker.specs.Tells.{heard_of}
 use Rattle.onlooker.specs.declared.Onlooker.{Onlooker}
 use Rattle.onlooker.proofs.Follows.{tells}
-use Rattle.judge.specs.Judged.{going, answer_of, kept, line_for, line_kept, differs_now, breaks_now, entry_with, number_of}
+use Rattle.judge.specs.Judged.{shown_in, answer_of, kept, line_for, line_kept, differs_now, breaks_now, read_entry, entry_with, number_of}
+use Rattle.judge.specs.declared.End.{End}
 use Rattle.judge.specs.Printed.{Printed, judge_all, board_log, Readable, drive_after, Supervised}
 use Rattle.judge.specs.declared.Judge.{Judge}
 use Rattle.judge.proofs.Forms.{same_found}
 
--- a first one that is still not named was not named before, and what would name it does not hold
-unnamed : (good : Bool) (before number : ℕ) (right : Bool) → T good → (number ≡ 0 → ⊥)
-    → cond (good && eqb before 0 && not right) number before ≡ 0
-    → (before ≡ 0) × T right
-unnamed false before number right is some e = absurd is
-unnamed true before number right is some e = go (eqb before 0) refl right e
-  where
-    go : (none : Bool) → eqb before 0 ≡ none → (r : Bool) → cond (none && not r) number before ≡ 0 → (before ≡ 0) × T r
-    go true z true e = (e, tt)
-    go true z false e = absurd (some e)
-    go false z r e = absurd (eqb-false before 0 z e)
-
-pub numbered : (j : Judge) → number_of j ≡ 0 → ⊥
-numbered j none = omega arith
+-- nothing is named: nothing was named before, and what would be named is right
+unnamed : {A : Type 0} (before : Option A) (right : Bool) (new : A) → option_or before (then_some (not right) new) ≡ None
+    → (before ≡ None) × T right
+unnamed (Some named) right new none = cc
+unnamed None true new none = (refl, tt)
+unnamed None false new none = cc
 
 -- what an entry leaves, field by field
-module _ (j : Judge) (said : Reply) (heard : Onlooker) (good : Bool) (end : ℕ) (line : List ℕ) where
-  entry_drive : (entry_with j said heard good end line).drive ≡ said.drive
-  unfolding entry_with
-  entry_drive = refl
+module _ (j : Judge) (said : Reply) (heard : Onlooker) (end : Option End) (line : List ℕ) where
+  abbrev left : Judge
+  left = entry_with j said heard end line
 
-  entry_heard : T good → (entry_with j said heard good end line).onlooker ≡ heard
-  unfolding entry_with
-  entry_heard read = by_test (λ (o : Onlooker). o ≡ heard) good (λ _. refl) (λ fails. never good fails read)
+  entry_drive : left.drive ≡ said.drive
+  unfolding read_entry
+  entry_drive = by_test (λ (after : Judge). after.drive ≡ said.drive) (is_good line) (λ _. refl) (λ _. refl)
 
-  entry_differs : T good → (entry_with j said heard good end line).differs ≡ 0
-      → (j.differs ≡ 0) × T (same_bytes (line_for (length line) said.answer) (line_kept line))
-  unfolding entry_with differs_now
+  as_read : T (is_good line) → left ≡ read_entry j said heard end line
+  as_read read =
+      by_test (λ (after : Judge). after ≡ read_entry j said heard end line) (is_good line) (λ _. refl)
+      (λ fails. never (is_good line) fails read)
+
+  entry_heard : T (is_good line) → left.onlooker ≡ heard
+  unfolding read_entry
+  entry_heard read = ap (λ (after : Judge). after.onlooker) (as_read read)
+
+  entry_differs : T (is_good line) → left.differs ≡ None
+      → (j.differs ≡ None) × T (same_bytes (line_for (length line) said.answer) (line_kept line))
+  unfolding read_entry differs_now
   entry_differs read none =
-      unnamed good j.differs (number_of j) (same_bytes (line_for (length line) said.answer) (line_kept line)) read (numbered j) none
+      unnamed j.differs (same_bytes (line_for (length line) said.answer) (line_kept line))
+      (record { number = number_of j; expected = line_for (length line) said.answer; found = line_kept line })
+      (sym (ap (λ (after : Judge). after.differs) (as_read read)) ∙ none)
 
-  entry_breaks : T good → (entry_with j said heard good end line).breaks ≡ 0 → (j.breaks ≡ 0) × T (kept heard.rules)
-  unfolding entry_with breaks_now
-  entry_breaks read none = unnamed good j.breaks (number_of j) (kept heard.rules) read (numbered j) none
+  entry_breaks : T (is_good line) → left.breaks ≡ None → (j.breaks ≡ None) × T (kept heard.rules)
+  unfolding read_entry breaks_now
+  entry_breaks read none =
+      unnamed j.breaks (kept heard.rules) (record { number = number_of j; rules = heard.rules })
+      (sym (ap (λ (after : Judge). after.breaks) (as_read read)) ∙ none)
 
 -- an entry of these calls
 module _ (p : Printed) (before : List Printed) where
@@ -70,25 +77,22 @@ module _ (p : Printed) (before : List Printed) where
   said = reply (judge_all before).drive p.call
 
   abbrev pub hearing : Onlooker
-  hearing = hears (judge_all before).onlooker (record { call = p.call; answer = answer_of (shown_by p.line) })
-
-  abbrev pub read : Bool
-  read = (shown_by p.line).good
+  hearing = hears (judge_all before).onlooker (record { call = p.call; answer = answer_of (shown_in p.line) })
 
 pub drive_is : (ps : List Printed) → (judge_all ps).drive ≡ drive_after ps
 unfolding judge_all drive_after
 drive_is [] = refl
 drive_is (p ∷ before) =
-    entry_drive (judge_all before) (said p before) (hearing p before) (read p before) going p.line
+    entry_drive (judge_all before) (said p before) (hearing p before) None p.line
     ∙ ap (λ (d : Drive). (reply d p.call).drive) (drive_is before)
 
-pub no_line_differs : (ps : List Printed) → Readable ps → (judge_all ps).differs ≡ 0 → Supervised ps
+pub no_line_differs : (ps : List Printed) → Readable ps → (judge_all ps).differs ≡ None → Supervised ps
 unfolding judge_all Readable Supervised
 no_line_differs [] readable none = tt
 no_line_differs (p ∷ before) readable none =
     let d = (judge_all before).drive in
     let (earlier, same) =
-    entry_differs (judge_all before) (said p before) (hearing p before) (read p before) going p.line readable.0 none
+    entry_differs (judge_all before) (said p before) (hearing p before) None p.line readable.0 none
     in (
       same_found d p.call p.line readable.0
           (same_equal (line_for (length p.line) (said p before).answer) (line_kept p.line) same)
@@ -101,8 +105,8 @@ pub heard_is : (ps : List Printed) → Readable ps → (judge_all ps).onlooker �
 unfolding judge_all Readable board_log heard_of
 heard_is [] readable = refl
 heard_is (p ∷ before) readable =
-    entry_heard (judge_all before) (said p before) (hearing p before) (read p before) going p.line readable.0
-    ∙ ap (λ (o : Onlooker). hears o (record { call = p.call; answer = answer_of (shown_by p.line) })) (heard_is before readable.1)
+    entry_heard (judge_all before) (said p before) (hearing p before) None p.line readable.0
+    ∙ ap (λ (o : Onlooker). hears o (record { call = p.call; answer = answer_of (shown_in p.line) })) (heard_is before readable.1)
 
 pub length-log : (ps : List Printed) → length (board_log ps) ≡ length ps
 unfolding board_log
@@ -143,21 +147,21 @@ unfolding notes holds
 nothing_breaks = tt
 
 pub heard_now : (p : Printed) (before : List Printed) → Readable before
-    → hearing p before ≡ heard_of (record { call = p.call; answer = answer_of (shown_by p.line) } ∷ board_log before)
+    → hearing p before ≡ heard_of (record { call = p.call; answer = answer_of (shown_in p.line) } ∷ board_log before)
 unfolding heard_of
 heard_now p before readable =
-    ap (λ (o : Onlooker). hears o (record { call = p.call; answer = answer_of (shown_by p.line) })) (heard_is before readable)
+    ap (λ (o : Onlooker). hears o (record { call = p.call; answer = answer_of (shown_in p.line) })) (heard_is before readable)
 
-pub no_call_breaks : (ps : List Printed) → Readable ps → length ps ≤ most → (judge_all ps).breaks ≡ 0
+pub no_call_breaks : (ps : List Printed) → Readable ps → length ps ≤ most → (judge_all ps).breaks ≡ None
     → Demand3 (notes words (board_log ps))
 unfolding judge_all Readable board_log
 no_call_breaks [] readable few none = nothing_breaks
 no_call_breaks (p ∷ before) readable few none =
     let (earlier, held) =
-    entry_breaks (judge_all before) (said p before) (hearing p before) (read p before) going p.line readable.0 none
+    entry_breaks (judge_all before) (said p before) (hearing p before) None p.line readable.0 none
     in
     let short : suc (length (board_log before)) ≤ most = omega (arith, length-log before) in
-    holds_on (board_log before) (record { call = p.call; answer = answer_of (shown_by p.line) })
-    (held_after (record { call = p.call; answer = answer_of (shown_by p.line) } ∷ board_log before) short
+    holds_on (board_log before) (record { call = p.call; answer = answer_of (shown_in p.line) })
+    (held_after (record { call = p.call; answer = answer_of (shown_in p.line) } ∷ board_log before) short
     (subst (λ (o : Onlooker). T (kept o.rules)) (heard_now p before readable.1) held))
     (no_call_breaks before readable.1 (omega arith) earlier)

@@ -3,7 +3,7 @@ use Rattle.std.specs.Prelude.{ℕ, ◌≡◌, List, [], ◌∷◌, ◌++◌, T, 
 use Rattle.drive.specs.AnyCall.{Call}
 use Rattle.streams.specs.Run.{whole}
 use Rattle.records.specs.Front.{size_of, front}
-use Rattle.lines.specs.Shown.{shown_by}
+use Rattle.lines.specs.Shown.{is_good}
 use Rattle.judge.specs.NextLine.{line_of}
 use Rattle.judge.specs.Judged.{judge_refusal, ended_by}
 use Rattle.judge.specs.Printed.{Printed, judge_all, Readable}
@@ -38,5 +38,5 @@ pub data Stands (records lines : List ℕ) : Judge → Type 0 where
       (p : Printed) (ps : List Printed)
       → Fed records lines (p ∷ ps)
       → Readable ps
-      → T (not (shown_by p.line).good)
+      → T (not (is_good p.line))
       → Stands records lines (judge_all (p ∷ ps))

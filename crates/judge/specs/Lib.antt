@@ -1,10 +1,7 @@
-pub mod Bytes
 pub mod NextLine
 pub mod Judged
-pub mod Hearing
 pub mod Run
 pub mod Sentences
-pub mod Pages
 pub mod Printed
 pub mod First
 pub mod Fed

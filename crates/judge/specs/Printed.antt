@@ -6,8 +6,8 @@ use Rattle.drive.specs.declared.Drive.{Drive}
 use Rattle.drive.specs.declared.answer.Answer.{Answer}
 use Rattle.theorems_history.specs.Log.{Entry}
 use Rattle.lines.specs.Earlier.{line_like}
-use Rattle.lines.specs.Shown.{shown_by}
-use Rattle.judge.specs.Judged.{nothing_judged, answer_of, judge_call}
+use Rattle.lines.specs.Shown.{is_good}
+use Rattle.judge.specs.Judged.{nothing_judged, shown_in, answer_of, judge_call}
 use Rattle.judge.specs.declared.Judge.{Judge}
 
 pub record Printed : Type 0 where
@@ -21,12 +21,12 @@ judge_all (p ∷ before) = judge_call (judge_all before) p.call p.line
 -- the board's log: each call with the answer that its line shows
 unfoldable pub board_log : List Printed → List (Entry Call Answer)
 board_log [] = []
-board_log (p ∷ before) = record { call = p.call; answer = answer_of (shown_by p.line) } ∷ board_log before
+board_log (p ∷ before) = record { call = p.call; answer = answer_of (shown_in p.line) } ∷ board_log before
 
 -- every line can be read
 unfoldable pub Readable : List Printed → Type 0
 Readable [] = Unit {0}
-Readable (p ∷ before) = T (shown_by p.line).good × Readable before
+Readable (p ∷ before) = T (is_good p.line) × Readable before
 
 -- the supervisor after these calls, whatever the board printed
 unfoldable pub drive_after : List Printed → Drive

@@ -1,11 +1,14 @@
 -- What the judge says: "it names the first line that differs from what the supervisor answers, and the first entry of the log that breaks
 -- demand 3, or says that neither exists".
-use Rattle.std.specs.Prelude.{ℕ, Bool, cond, List, [], ◌∷◌, ◌++◌, eqb, get_or}
+use Rattle.std.specs.Prelude.{ℕ, Bool, cond, Option, Some, None, List, [], ◌++◌}
 use Rattle.text.specs.Text.{text}
 use Rattle.text.specs.Decimal.{decimal, column}
-use Rattle.onlooker.specs.declared.past.Rules.{Rules}
 use Rattle.judge.specs.NextLine.{line_of}
-use Rattle.judge.specs.Judged.{missing, left_over, unreadable, refused, number_of}
+use Rattle.judge.specs.Judged.{number_of}
+use Rattle.judge.specs.declared.Difference.{Difference}
+use Rattle.judge.specs.declared.Breach.{Breach}
+use Rattle.judge.specs.declared.End.{End}
+use Rattle.judge.specs.declared.End.TheVariants.{Over, Missing, LeftOver, Unreadable, Refused}
 use Rattle.judge.specs.declared.Judge.{Judge}
 
 -- what is said of the lines: how many calls were judged, and whether one differs
@@ -48,15 +51,6 @@ unreadable_words = text "has a line that cannot be read: nothing behind it is ju
 abbrev pub refused_words : List ℕ
 refused_words = text "is unknown or cut short: the run ends there\n"
 
--- all of them by their rows in the code's table; the first says nothing
-abbrev pub rows : List (List ℕ)
-rows =
-    [] ∷ calls_words ∷ same_words ∷ differs_words ∷ found_words ∷ kept_words ∷ gates_words ∷ exit_words ∷ retries_words
-    ∷ missing_words ∷ left_over_words ∷ unreadable_words ∷ refused_words ∷ []
-
-abbrev pub sentence : ℕ → List ℕ
-sentence row = get_or rows row []
-
 -- the record's number, in a column of five and two blanks
 unfoldable pub placed : ℕ → List ℕ
 placed number = text "record " ++ column 5 number ++ text "  "
@@ -70,33 +64,38 @@ unfoldable pub counting : ℕ → List ℕ
 counting heard = decimal heard ++ calls_words
 
 -- the first line that differs: both as far as their line feed, for an earlier board's are shorter
-unfoldable pub differing : ℕ → List ℕ → List ℕ → List ℕ
-differing number expected found =
-    cond (eqb number 0) same_words (about number differs_words ++ line_of expected ++ found_words ++ line_of found)
+abbrev pub differing : Option Difference → List ℕ
+differing None = same_words
+differing (Some first) = about first.number differs_words ++ line_of first.expected ++ found_words ++ line_of first.found
 
 -- a rule that does not hold
 unfoldable pub broken : Bool → ℕ → List ℕ → List ℕ
 broken holds number words = cond holds [] (about number words)
 
 -- the first entry that breaks demand 3, with each rule that it breaks
-unfoldable pub breaking : ℕ → Rules → List ℕ
-breaking number rules =
-    cond (eqb number 0) kept_words
-    (broken rules.gates number gates_words
-    ++ broken rules.exit number exit_words
-    ++ broken rules.retries number retries_words)
+abbrev pub breaking : Option Breach → List ℕ
+breaking None = kept_words
+breaking (Some first) =
+    broken first.rules.gates first.number gates_words
+    ++ broken first.rules.exit first.number exit_words
+    ++ broken first.rules.retries first.number retries_words
 
 -- how it ended
-unfoldable pub ending : ℕ → ℕ → List ℕ
-ending end number =
-    cond (eqb end missing) (about number missing_words)
-    (cond (eqb end left_over) (about number left_over_words)
-    (cond (eqb end unreadable) (about number unreadable_words)
-    (cond (eqb end refused) (about number refused_words) [])))
+abbrev pub ending : Option End → ℕ → List ℕ
+ending None number = []
+ending (Some Over) number = []
+ending (Some Missing) number = about number missing_words
+ending (Some LeftOver) number = about number left_over_words
+ending (Some Unreadable) number = about number unreadable_words
+ending (Some Refused) number = about number refused_words
 
 unfoldable pub said : Judge → List ℕ
 said j =
     counting j.onlooker.past.heard
-    ++ differing j.differs j.expected j.found
-    ++ breaking j.breaks j.rules
+    ++ differing j.differs
+    ++ breaking j.breaks
     ++ ending j.end (number_of j)
+
+-- room for all that he can say
+abbrev pub verdict_size : ℕ
+verdict_size = 1024

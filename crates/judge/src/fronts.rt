@@ -1,34 +1,13 @@
-// The line that stands at a place of a board's lines.
-ghost use Rattle.std.specs.Prelude.{◌≡◌, drop};
-ghost use Rattle.judge.specs.NextLine.{next_line};
+// The line that stands at the front of a board's lines.
+ghost use Rattle.std.specs.Prelude.{◌≡◌, ◌≤◌, length, IfSome};
+ghost use Rattle.judge.specs.NextLine.{line_size};
 
-use crate::scan::find;
-
-// How many bytes the line has, and whether its line feed is among them.
-#[derive(Clone, Copy)]
-pub(crate) struct Next {
-    pub size: usize,
-    pub whole: bool,
-}
-
-pub(crate) fn next_line(lines: &[u8], from: usize) -> Next
-    ensures { result ≡ next_line (drop from lines.now) }
+// How many bytes it has, its line feed included; none where there is no line feed.
+#[tactic(auto, unfolding(crate::specs::NextLine::line_size))]
+pub(crate) fn line_size(lines: &[u8]) -> Option<usize>
+    ensures size { result ≡ line_size lines.now }
+    ensures within { IfSome result (λ size. size ≤ length lines.now) }
 {
-    if lines.len() <= from {
-        return Next {
-            size: 0,
-            whole: false,
-        };
-    }
-    let feed = find(lines, from, lines.len(), b'\n');
-    if feed < lines.len() {
-        return Next {
-            size: feed - from + 1,
-            whole: true,
-        };
-    }
-    Next {
-        size: lines.len() - from,
-        whole: false,
-    }
+    let feed = lines.iter().position(|byte| *byte == b'\n')?;
+    Some(feed + 1)
 }

@@ -1,147 +1,100 @@
-// What the judge says: sentence after sentence on a page, and the page into the lent bytes.
-ghost use Rattle.std.specs.Prelude.{◌≡◌, ◌<◌};
+// What the judge says, written into lent bytes by `text`: each writer puts what fits, and tells the place behind it.
+ghost use Rattle.std.specs.Prelude.{◌≡◌};
 ghost use Rattle.text.specs.Put.{behind, written};
+ghost use Rattle.text.proofs.Chains.{Puts};
 ghost use Rattle.judge.specs.NextLine.{line_of};
-ghost use Rattle.judge.specs.Pages.{blank_page, more};
-ghost use Rattle.judge.specs.Sentences.{placed, sentence, about, counting, differing, broken, breaking, ending, said};
+ghost use Rattle.judge.specs.Sentences.{about, differing, broken, breaking, ending, said};
 
-use crate::fronts::next_line;
-use crate::picks::one_more;
-use crate::scan::find;
-use crate::words::{
-    CALLS_JUDGED, EXIT_BREAKS, FOUND, GATES_BREAK, LINE_DIFFERS, LINE_LEFT_OVER, LINE_MISSING,
-    LINE_UNREADABLE, NO_LINE_DIFFERS, NONE_BREAKS, RECORD_REFUSED, RETRIES_BREAK, SILENCE, WIDTH,
-    words,
-};
-use crate::{Judge, LEFT_OVER, MISSING, REFUSED, UNREADABLE};
-use onlooker::past::Rules;
-use report::LINE_LENGTH;
+use crate::fronts::line_size;
+use crate::{Breach, Difference, End, Judge};
 use text::{put, put_column, put_decimal};
 
-// Bytes for all that the judge can say, whatever it is: `said_within` of proofs/Pages.antt.
+// Bytes for all that the judge can say, whatever it is: `said_within` of proofs/Room.antt.
 pub const VERDICT_SIZE: usize = 1024;
 
-// What is said so far.
-#[derive(Clone, Copy)]
-struct Page {
-    bytes: [u8; VERDICT_SIZE],
-    size: usize,
-}
-
-fn put_placed(lent: &mut [u8], at: usize, number: u64) -> usize
-    ensures next { result ≡ behind at (placed number) lent.old }
-    ensures lent { lent.new ≡ written at (placed number) lent.old }
+// A sentence about a record: its number in a column, and the words.
+fn put_about(lent: &mut [u8], at: usize, number: u64, words: &[u8]) -> usize
+    ensures { Puts at (about number words.now) lent.old result lent.new }
 {
     let at = put(lent, at, b"record ");
     let at = put_column(lent, at, number, 5);
-    put(lent, at, b"  ")
+    let at = put(lent, at, b"  ");
+    put(lent, at, words)
 }
 
 // A line, as far as its line feed.
-#[tactic(auto, unfolding(crate::specs::NextLine::next_line, crate::specs::Pages::more))]
-fn say_line(page: Page, line: [u8; LINE_LENGTH]) -> Page
-    ensures { result ≡ more page (line_of line) }
+fn put_line(lent: &mut [u8], at: usize, line: &[u8]) -> usize
+    ensures { Puts at (line_of line.now) lent.old result lent.new }
 {
-    let next = next_line(&line, 0);
-    let end = next.size;
-    let mut bytes = page.bytes;
-    let size = put(&mut bytes, page.size, &line[..end]);
-    Page { bytes, size }
+    let size = line_size(line).unwrap_or(line.len());
+    put(lent, at, &line[..size])
 }
 
-// The words of a row, up to their bar.
-fn say(page: Page, row: u8) -> Page
-    requires { row < 13 }
-    ensures { result ≡ more page (sentence row) }
+// The first line that differs: both as far as their line feed, for an earlier board's are shorter.
+fn put_differing(lent: &mut [u8], at: usize, differs: Option<Difference>) -> usize
+    ensures { Puts at (differing differs) lent.old result lent.new }
 {
-    let words = words(row);
-    let end = find(&words, 0, WIDTH, b'|');
-    let mut bytes = page.bytes;
-    let size = put(&mut bytes, page.size, &words[..end]);
-    Page { bytes, size }
+    let Some(first) = differs else {
+        let words = b"no line of these differs from what the supervisor answers\n";
+        return put(lent, at, words);
+    };
+    let words = b"the line differs from what the supervisor answers\n  expected ";
+    let at = put_about(lent, at, first.number, words);
+    let at = put_line(lent, at, &first.expected);
+    let at = put(lent, at, b"  found    ");
+    put_line(lent, at, &first.found)
 }
 
-fn say_about(page: Page, number: u64, row: u8) -> Page
-    requires { row < 13 }
-    ensures { result ≡ more page (about number (sentence row)) }
-{
-    let mut bytes = page.bytes;
-    let size = put_placed(&mut bytes, page.size, number);
-    say(Page { bytes, size }, row)
-}
-
-fn say_counting(heard: u64) -> Page
-    ensures { result ≡ more blank_page (counting heard) }
-{
-    let mut bytes = [0u8; VERDICT_SIZE];
-    let size = put_decimal(&mut bytes, 0, heard);
-    say(Page { bytes, size }, CALLS_JUDGED)
-}
-
-fn say_differing(
-    page: Page,
-    number: u64,
-    expected: [u8; LINE_LENGTH],
-    found: [u8; LINE_LENGTH],
-) -> Page
-    ensures { result ≡ more page (differing number expected found) }
-{
-    if number == 0 {
-        return say(page, NO_LINE_DIFFERS);
-    }
-    let page = say_line(say_about(page, number, LINE_DIFFERS), expected);
-    say_line(say(page, FOUND), found)
-}
-
-fn say_broken(page: Page, holds: bool, number: u64, row: u8) -> Page
-    requires { row < 13 }
-    ensures { result ≡ more page (broken holds number (sentence row)) }
+// A rule that does not hold.
+fn put_broken(lent: &mut [u8], at: usize, holds: bool, number: u64, words: &[u8]) -> usize
+    ensures { Puts at (broken holds number words.now) lent.old result lent.new }
 {
     if holds {
-        return say(page, SILENCE);
+        return put(lent, at, b"");
     }
-    say_about(page, number, row)
+    put_about(lent, at, number, words)
 }
 
-fn say_breaking(page: Page, number: u64, rules: Rules) -> Page
-    ensures { result ≡ more page (breaking number rules) }
+// The first entry that breaks demand 3, with each rule that it breaks.
+fn put_breaking(lent: &mut [u8], at: usize, breaks: Option<Breach>) -> usize
+    ensures { Puts at (breaking breaks) lent.old result lent.new }
 {
-    if number == 0 {
-        return say(page, NONE_BREAKS);
-    }
-    let page = say_broken(page, rules.gates, number, GATES_BREAK);
-    let page = say_broken(page, rules.exit, number, EXIT_BREAKS);
-    say_broken(page, rules.retries, number, RETRIES_BREAK)
+    let Some(first) = breaks else {
+        return put(lent, at, b"none of these breaks demand 3\n");
+    };
+    let rules = first.rules;
+    let gates =
+        b"breaks demand 3, gates: they charge or drive, and a live fault stands or no permitted start was taken\n";
+    let at = put_broken(lent, at, rules.gates, first.number, gates);
+    let exit =
+        b"breaks demand 3, exit: FAULT was left with a live cause, without a trip, or neither by a clear nor by a timed retry\n";
+    let at = put_broken(lent, at, rules.exit, first.number, exit);
+    let retries = b"breaks demand 3, retries: more timed retries than the loaded limit\n";
+    put_broken(lent, at, rules.retries, first.number, retries)
 }
 
-fn say_ending(page: Page, end: u8, number: u64) -> Page
-    ensures { result ≡ more page (ending end number) }
+// How it ended.
+fn put_ending(lent: &mut [u8], at: usize, end: Option<End>, number: u64) -> usize
+    ensures { Puts at (ending end number) lent.old result lent.new }
 {
-    if end == MISSING {
-        return say_about(page, number, LINE_MISSING);
+    match end {
+        None | Some(End::Over) => put(lent, at, b""),
+        Some(End::Missing) => {
+            put_about(lent, at, number, b"has no line: the lines end before it\n")
+        }
+        Some(End::LeftOver) => {
+            let words = b"is not there: the records end, and lines are left over\n";
+            put_about(lent, at, number, words)
+        }
+        Some(End::Unreadable) => {
+            let words = b"has a line that cannot be read: nothing behind it is judged\n";
+            put_about(lent, at, number, words)
+        }
+        Some(End::Refused) => {
+            let words = b"is unknown or cut short: the run ends there\n";
+            put_about(lent, at, number, words)
+        }
     }
-    if end == LEFT_OVER {
-        return say_about(page, number, LINE_LEFT_OVER);
-    }
-    if end == UNREADABLE {
-        return say_about(page, number, LINE_UNREADABLE);
-    }
-    if end == REFUSED {
-        return say_about(page, number, RECORD_REFUSED);
-    }
-    say(page, SILENCE)
-}
-
-fn say_all(judge: Judge) -> Page
-    ensures { result ≡ more blank_page (said judge) }
-{
-    let expected = judge.expected;
-    let found = judge.found;
-    let heard = judge.onlooker.past.heard;
-    let page = say_counting(heard);
-    let page = say_differing(page, judge.differs, expected, found);
-    let page = say_breaking(page, judge.breaks, judge.rules);
-    say_ending(page, judge.end, one_more(heard))
 }
 
 // All that the judge has to say, from the first of the lent bytes on.
@@ -149,8 +102,9 @@ pub fn verdict(judge: Judge, lent: &mut [u8]) -> usize
     ensures next { result ≡ behind 0 (said judge) lent.old }
     ensures lent { lent.new ≡ written 0 (said judge) lent.old }
 {
-    let page = say_all(judge);
-    let bytes = page.bytes;
-    let size = page.size;
-    put(lent, 0, &bytes[..size])
+    let at = put_decimal(lent, 0, judge.onlooker.past.heard);
+    let at = put(lent, at, b" calls judged\n");
+    let at = put_differing(lent, at, judge.differs);
+    let at = put_breaking(lent, at, judge.breaks);
+    put_ending(lent, at, judge.end, judge.next_number())
 }

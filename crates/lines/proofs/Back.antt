@@ -1,4 +1,6 @@
 -- Reading is the other way round than writing: the line of an answer shows that answer, and a good line is the line of an answer.
+use Rattle.std.proofs.Common.{Option, Some, None, is_some}
+use Rattle.std.specs.Option.{unwrap_or}
 use Prim.Native.Nat.{ℕ, ◌^◌, ◌≤◌, ◌<◌}
 use native.Mathlib.Omega.{arith}
 use mathlib.Core.Path.{◌≡◌, refl, ap, sym, ◌∙◌}
@@ -11,14 +13,14 @@ use Rattle.verdicts.specs.Table.{row, verdict}
 use Rattle.hall.specs.declared.fate.Fate.TheVariants.{Dead, First, Same, Forward, Back, Stray}
 use Rattle.drive.specs.Answer.{letter}
 use Rattle.drive.specs.declared.answer.Answer.{Answer}
-use Rattle.drive.specs.declared.answer.Judged.{Judged}
-use Rattle.drive.specs.declared.answer.Judged.TheVariants.{Nothing, Sample}
+use Rattle.hall.specs.declared.fate.Fate.{Fate}
 use Rattle.report.specs.Refusals.{line_length, accepts}
 use Rattle.report.specs.Line.{name, line}
 use Rattle.lines.specs.Values.{judged_of}
 use Rattle.lines.specs.Fields.{part, answer_in}
 use Rattle.lines.specs.Earlier.{earlier_line, of_today}
 use Rattle.lines.specs.Shown.{shown, shown_today, shown_by}
+use Rattle.lines.specs.declared.Shown.{Shown}
 use Rattle.lines.proofs.Digits.{digits_back, signed_back}
 use Rattle.lines.proofs.Places as places
 use Rattle.lines.proofs.LineOf.{good_where, good_line}
@@ -48,14 +50,14 @@ on_the_line answer =
       judged = answer.judged;
     }
 
-letter_back : (judged : Judged) → judged_of (letter judged) ≡ judged
-letter_back Nothing = refl
-letter_back (Sample First) = refl
-letter_back (Sample Same) = refl
-letter_back (Sample Forward) = refl
-letter_back (Sample Back) = refl
-letter_back (Sample Dead) = refl
-letter_back (Sample Stray) = refl
+letter_back : (judged : Option Fate) → judged_of (letter judged) ≡ judged
+letter_back None = refl
+letter_back (Some First) = refl
+letter_back (Some Same) = refl
+letter_back (Some Forward) = refl
+letter_back (Some Back) = refl
+letter_back (Some Dead) = refl
+letter_back (Some Stray) = refl
 
 read_back : (answer : Answer) → answer.number ≤ 15 → answer.state ≤ 9 → answer.gate ≤ 3 → Fits answer
     → answer_in (line answer) ≡ on_the_line answer
@@ -89,7 +91,7 @@ none_holds false false true t = absurd t
 none_holds false false false t = (tt, tt, tt)
 
 -- the answer read off a line of today shows what was shown
-shown_today_lem : (answer : Answer) → T (accepts answer line_length) → Fits answer → shown_today (line answer) ≡ shown answer
+shown_today_lem : (answer : Answer) → T (accepts answer line_length) → Fits answer → shown_today (line answer) ≡ Some (shown answer)
 unfolding line
 shown_today_lem answer accepted fits =
     let (number, state, gate) =
@@ -98,10 +100,10 @@ shown_today_lem answer accepted fits =
     let back =
     read_back answer (nltb→le 15 answer.number number) (nltb→le 9 answer.state state) (nltb→le 3 answer.gate gate) fits
     in
-    good_where (line answer) (rw back (record { accepted = accepted; written = refl })) ∙ ap shown back
+    good_where (line answer) (rw back (record { accepted = accepted; written = refl })) ∙ ap (λ (a : Answer). Some (shown a)) back
 
 -- Reading gives back what was shown, whatever was: of every answer that has a line.
-pub shown_back : (answer : Answer) → T (accepts answer line_length) → Fits answer → shown_by (line answer) ≡ shown answer
+pub shown_back : (answer : Answer) → T (accepts answer line_length) → Fits answer → shown_by (line answer) ≡ Some (shown answer)
 shown_back answer accepted fits = rw (line_of_today answer) (shown_today_lem answer accepted fits)
 
 -- The same of the line that an earlier board prints for it.
@@ -109,7 +111,7 @@ pub shown_back_earlier :
     (answer : Answer)
     → T (accepts answer line_length)
     → Fits answer
-    → shown_by (earlier_line answer) ≡ shown answer
+    → shown_by (earlier_line answer) ≡ Some (shown answer)
 shown_back_earlier answer accepted fits =
     rw (earlier_of_today answer) (shown_today_lem (untold answer) accepted (record {
       live = fits.live;
@@ -119,10 +121,12 @@ shown_back_earlier answer accepted fits =
     }))
 
 -- no state is read that the line does not name
-pub name_stands : (bytes : List ℕ) → T (shown_by bytes).good → part 2 12 bytes ≡ name (shown_by bytes).state
-name_stands bytes good =
+pub name_stands : (bytes : List ℕ) (s : Shown) → shown_by bytes ≡ Some s → part 2 12 bytes ≡ name s.state
+name_stands bytes s shows =
+    let good : T (is_some (shown_by bytes)) = rw shows tt in
     let is = good_line (of_today bytes) good in
+    let same : Some (shown (answer_in (of_today bytes))) ≡ Some s = sym (good_where (of_today bytes) is) ∙ shows in
     name_of_today bytes
     ∙ ap (part 2 12) (sym is.written)
     ∙ places.name_at (answer_in (of_today bytes))
-    ∙ rw (good_where (of_today bytes) is)
+    ∙ ap (λ (o : Option Shown). name (unwrap_or o s).state) same

@@ -1,4 +1,5 @@
 -- A line of today is one already; the line of an earlier board, put into the form of today, is that of the same answer without a sample.
+use Rattle.std.proofs.Common.{None}
 use Prim.Native.Nat.{ℕ, ◌≤◌}
 use native.Mathlib.Omega.{arith}
 use mathlib.Core.Path.{◌≡◌, refl, ap, sym, ◌∙◌}
@@ -12,7 +13,6 @@ use borrow.Author.Tests.{eqb-true}
 use Rattle.numbers.proofs.Tests.{by_test}
 use Rattle.drive.specs.Answer.{letter}
 use Rattle.drive.specs.declared.answer.Answer.{Answer}
-use Rattle.drive.specs.declared.answer.Judged.TheVariants.{Nothing}
 use Rattle.text.specs.Text.{text}
 use Rattle.report.specs.Refusals.{line_length}
 use Rattle.report.specs.Line.{fields, line}
@@ -20,7 +20,7 @@ use Rattle.report.proofs.Digits.{length_digits}
 use Rattle.report.proofs.Fields.{length-line, length-signed, length-name}
 use Rattle.lines.specs.Fields.{part, answer_in}
 use Rattle.lines.specs.Earlier.{earlier_length, fields_length, earlier_line, of_today}
-use Rattle.lines.specs.Shown.{shown_by}
+use Rattle.lines.specs.Shown.{is_good}
 use Rattle.lines.proofs.LineOf.{good_line}
 
 of_today_else : (bytes : List ℕ) → eqb (length bytes) earlier_length ≡ false → of_today bytes ≡ bytes
@@ -70,7 +70,7 @@ untold answer =
       angle = answer.angle;
       offsets = answer.offsets;
       retries = answer.retries;
-      judged = Nothing;
+      judged = None;
     }
 
 inserted : (front : List ℕ) → length front ≡ fields_length
@@ -112,9 +112,9 @@ unfolding earlier_line
 length-earlier answer = length-append (fields answer) (text "\n") ∙ rw (length_fields answer)
 
 -- a line that can be read is of one of the two lengths
-pub good_length : (bytes : List ℕ) → T (shown_by bytes).good → (length bytes ≡ earlier_length) ⊎ (length bytes ≡ line_length)
-good_length bytes good =
-    let is = good_line (of_today bytes) good in
+pub good_length : (bytes : List ℕ) → T (is_good bytes) → (length bytes ≡ earlier_length) ⊎ (length bytes ≡ line_length)
+good_length bytes reads =
+    let is = good_line (of_today bytes) reads in
     go (eqb (length bytes) earlier_length) refl (ap length (sym is.written) ∙ length-line (answer_in (of_today bytes)))
   where
     go : (earlier : Bool) → eqb (length bytes) earlier_length ≡ earlier → length (of_today bytes) ≡ line_length
@@ -125,12 +125,12 @@ good_length bytes good =
 -- A line that can be read is the line of an answer, as today's boards print it or as earlier ones did.
 pub good_either :
     (bytes : List ℕ)
-    → T (shown_by bytes).good
+    → T (is_good bytes)
     → (let answer : Answer = answer_in (of_today bytes) in (bytes ≡ line answer) ⊎ (bytes ≡ earlier_line answer))
-good_either bytes good = go (eqb (length bytes) earlier_length) refl
+good_either bytes reads = go (eqb (length bytes) earlier_length) refl
   where
     is : line (answer_in (of_today bytes)) ≡ of_today bytes
-    is = (good_line (of_today bytes) good).written
+    is = (good_line (of_today bytes) reads).written
 
     go : (earlier : Bool) → eqb (length bytes) earlier_length ≡ earlier
         → (bytes ≡ line (answer_in (of_today bytes))) ⊎ (bytes ≡ earlier_line (answer_in (of_today bytes)))

@@ -1,5 +1,6 @@
 -- A line is good exactly where it is the line of the answer that its digits show; equal bytes pass the test, and no others.
 use Prim.Native.Nat.{ℕ}
+use Rattle.std.specs.Prelude.{Option, Some, None, is_some}
 use mathlib.Core.Path.{◌≡◌, refl, ap, sym, ◌∙◌}
 use mathlib.Core.Bool.{Bool, true, false}
 use mathlib.Core.List.{List, [], ◌∷◌}
@@ -12,7 +13,7 @@ use Rattle.report.specs.Refusals.{line_length, accepts}
 use Rattle.report.specs.Line.{line}
 use Rattle.report.proofs.Fields.{length-line}
 use Rattle.lines.specs.Fields.{answer_in}
-use Rattle.lines.specs.Shown.{same_bytes, is_line_of, unreadable, shown, shown_today}
+use Rattle.lines.specs.Shown.{same_bytes, is_line_of, shown, shown_today}
 use Rattle.lines.specs.declared.Shown.{Shown}
 
 pub same_equal : (a b : List ℕ) → T (same_bytes a b) → a ≡ b
@@ -54,27 +55,27 @@ passes_test answer bytes is =
     yes_and (accepts answer line_length) (same_bytes (line answer) bytes) is.accepted (rw is.written (same_self bytes))
 
 module _ (bytes : List ℕ) where
-  pub good_where : LineOf (answer_in bytes) bytes → shown_today bytes ≡ shown (answer_in bytes)
+  pub good_where : LineOf (answer_in bytes) bytes → shown_today bytes ≡ Some (shown (answer_in bytes))
   unfolding shown_today
   good_where is =
       let long : length bytes ≡ line_length = ap length (sym is.written) ∙ length-line (answer_in bytes) in
-      by_test (λ (s : Shown). s ≡ shown (answer_in bytes)) (eqb (length bytes) line_length)
-      (λ _. by_test (λ (s : Shown). s ≡ shown (answer_in bytes)) (is_line_of (answer_in bytes) bytes) (λ _. refl)
+      by_test (λ (s : Option Shown). s ≡ Some (shown (answer_in bytes))) (eqb (length bytes) line_length)
+      (λ _. by_test (λ (s : Option Shown). s ≡ Some (shown (answer_in bytes))) (is_line_of (answer_in bytes) bytes) (λ _. refl)
       (λ fails. never (is_line_of (answer_in bytes) bytes) fails (passes_test (answer_in bytes) bytes is)))
       (λ fails. never (eqb (length bytes) line_length) fails (rw long tt))
 
-  pub bad_where : (LineOf (answer_in bytes) bytes → ⊥) → shown_today bytes ≡ unreadable
+  pub bad_where : (LineOf (answer_in bytes) bytes → ⊥) → shown_today bytes ≡ None
   unfolding shown_today
   bad_where none =
-      by_test (λ (s : Shown). s ≡ unreadable) (eqb (length bytes) line_length)
-      (λ _. by_test (λ (s : Shown). s ≡ unreadable) (is_line_of (answer_in bytes) bytes)
+      by_test (λ (s : Option Shown). s ≡ None) (eqb (length bytes) line_length)
+      (λ _. by_test (λ (s : Option Shown). s ≡ None) (is_line_of (answer_in bytes) bytes)
       (λ t. absurd (none (test_passed (answer_in bytes) bytes t))) (λ _. refl))
       (λ _. refl)
 
-  pub good_line : T (shown_today bytes).good → LineOf (answer_in bytes) bytes
+  pub good_line : T (is_some (shown_today bytes)) → LineOf (answer_in bytes) bytes
   unfolding shown_today
   good_line =
-      by_test (λ (s : Shown). T s.good → LineOf (answer_in bytes) bytes) (eqb (length bytes) line_length)
-      (λ _. by_test (λ (s : Shown). T s.good → LineOf (answer_in bytes) bytes) (is_line_of (answer_in bytes) bytes)
+      by_test (λ (s : Option Shown). T (is_some s) → LineOf (answer_in bytes) bytes) (eqb (length bytes) line_length)
+      (λ _. by_test (λ (s : Option Shown). T (is_some s) → LineOf (answer_in bytes) bytes) (is_line_of (answer_in bytes) bytes)
       (λ t good. test_passed (answer_in bytes) bytes t) (λ _ good. absurd good))
       (λ _ good. absurd good)

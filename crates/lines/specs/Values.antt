@@ -1,12 +1,11 @@
 -- The value of a text: the other way round than `report`'s Text.antt. A text that shows no value is given some value: whether the
 -- line has its form is asked of the whole line (Shown.antt).
-use Rattle.std.specs.Prelude.{cond, ℕ, ◌+◌, ◌*◌, ◌-◌, ◌%◌, List, [], ◌∷◌, eqb, ltb, ℤ}
+use Rattle.std.specs.Prelude.{cond, ℕ, ◌+◌, ◌*◌, ◌-◌, ◌%◌, List, [], ◌∷◌, eqb, ltb, ℤ, Option, Some, None}
 use Prim.Native.Char.{code}
 use Rattle.std.specs.Int.{w16}
 use Rattle.std.proofs.Common.{to_z}
 use Rattle.hall.specs.declared.fate.Fate.TheVariants.{Dead, First, Same, Forward, Back, Stray}
-use Rattle.drive.specs.declared.answer.Judged.{Judged}
-use Rattle.drive.specs.declared.answer.Judged.TheVariants.{Nothing, Sample}
+use Rattle.hall.specs.declared.fate.Fate.{Fate}
 
 -- a digit has its value in the low four bits of its byte, the letters A to F nine less
 abbrev pub value_of : ℕ → ℕ
@@ -35,10 +34,10 @@ state_of first second =
     (cond (eqb first (code "F")) 5 (cond (eqb first (code "C")) 6 (cond (eqb first (code "P")) 7 9)))))))
 
 -- 02, M-105: "one letter (F, S, W, B, D, X, or a full stop otherwise)": any byte that is none of the six tells of no sample
-abbrev pub judged_of : ℕ → Judged
+abbrev pub judged_of : ℕ → Option Fate
 judged_of letter =
-    cond (eqb letter (code "F")) (Sample First)
-    (cond (eqb letter (code "S")) (Sample Same)
-    (cond (eqb letter (code "W")) (Sample Forward)
-    (cond (eqb letter (code "B")) (Sample Back)
-    (cond (eqb letter (code "D")) (Sample Dead) (cond (eqb letter (code "X")) (Sample Stray) Nothing)))))
+    cond (eqb letter (code "F")) (Some First)
+    (cond (eqb letter (code "S")) (Some Same)
+    (cond (eqb letter (code "W")) (Some Forward)
+    (cond (eqb letter (code "B")) (Some Back)
+    (cond (eqb letter (code "D")) (Some Dead) (cond (eqb letter (code "X")) (Some Stray) None)))))

@@ -13,18 +13,15 @@ pub(crate) fn answer_in(line: &[u8]) -> Answer
     ensures { result ≡ answer_in line.now }
 {
     Answer {
-        number: value(line, 0, 1, 16) as u8,
+        number: value(&line[..1], 16) as u8,
         place: 0,
         state: state_of(line[2], line[3]),
-        gate: value(line, 15, 1, 10) as u8,
-        live: value(line, 17, 4, 16) as u16,
-        reference: signed_of(line[22], value(line, 23, 5, 10)),
-        position: value(line, 29, 8, 16),
-        angle: signed_of(line[38], value(line, 39, 5, 10)),
-        offsets: Pair {
-            first: 0,
-            second: 0,
-        },
+        gate: value(&line[15..16], 10) as u8,
+        live: value(&line[17..21], 16) as u16,
+        reference: signed_of(line[22], value(&line[23..28], 10)),
+        position: value(&line[29..37], 16),
+        angle: signed_of(line[38], value(&line[39..44], 10)),
+        offsets: Pair::default(),
         retries: 0,
         judged: judged_of(line[45]),
     }

@@ -8,7 +8,6 @@ ghost use Rattle.std.specs.Prelude.{◌≡◌, length};
 ghost use Rattle.lines.specs.Earlier.{earlier_length, of_today};
 ghost use Rattle.lines.specs.Shown.{shown_today, shown_by};
 
-use check::same;
 use fields_in::answer_in;
 use report::LINE_LENGTH;
 use text::put;
@@ -18,48 +17,35 @@ pub const EARLIER_LENGTH: usize = 45;
 
 pub const FIELDS_LENGTH: usize = 44;
 
-// What a line shows, and all 0 where it is no line that an answer has.
-#[derive(Clone, Copy)]
+// What a line shows of the answer whose line it is.
+#[derive(Clone, Copy, Default)]
 pub struct Shown {
-    pub good: bool,
     pub number: u8,
     pub state: u8,
     pub gate: u8,
     pub live: u16,
 }
 
-const UNREADABLE: Shown = Shown {
-    good: false,
-    number: 0,
-    state: 0,
-    gate: 0,
-    live: 0,
-};
-
-// The answer that the digits show is written again. Only where this gives the very same bytes the line is good, so no field needs a
-// check of its own.
-fn read_today(line: &[u8]) -> Shown
+// The answer that the digits show is written again. Only where this gives the very same bytes the line is an answer's, so no field needs
+// a check of its own.
+fn read_today(line: &[u8]) -> Option<Shown>
     ensures { result ≡ shown_today line.now }
 {
     if line.len() != LINE_LENGTH {
-        return UNREADABLE;
+        return None;
     }
     let answer = answer_in(line);
     let mut written = [0u8; LINE_LENGTH];
-    let verdict = report::line(answer, &mut written);
-    if verdict.number != 0 {
-        return UNREADABLE;
+    report::line(answer, &mut written).ok()?;
+    if written.as_slice() != line {
+        return None;
     }
-    if !same(&written, line) {
-        return UNREADABLE;
-    }
-    Shown {
-        good: true,
+    Some(Shown {
         number: answer.number,
         state: answer.state,
         gate: answer.gate,
         live: answer.live,
-    }
+    })
 }
 
 // A line of an earlier board in the form of today: it tells of no sample.
@@ -74,7 +60,8 @@ fn completed(line: &[u8]) -> [u8; LINE_LENGTH]
     whole
 }
 
-pub fn read(line: &[u8]) -> Shown
+// What a line shows, and nothing where it is no line that an answer has.
+pub fn read(line: &[u8]) -> Option<Shown>
     ensures { result ≡ shown_by line.now }
 {
     if line.len() == EARLIER_LENGTH {

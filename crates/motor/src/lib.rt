@@ -1,7 +1,8 @@
 // What runs while the motor does: the counts of bits 4, 7 and 14, and the speed reference.
+// Settings and tick stay two arguments, as in the definitions: a drive holds the ones and is handed the other, so a struct of both would be
+// made for each call and taken apart in it.
 #![tactic(auto)]
 
-mod choose;
 mod counts;
 mod reference;
 
@@ -32,15 +33,13 @@ pub struct Watched {
     pub timeout: bool,
 }
 
-const NO_SLOTS: Slots = Slots {
-    ticks: 0,
-    bad: false,
-    bad_slots: 0,
-};
-
-// What every state but MOTORRUN holds.
+// What every state but MOTORRUN holds; a constant and no `Default`, since it is named by what it means where it is used.
 pub const AT_REST: Run = Run {
-    slots: NO_SLOTS,
+    slots: Slots {
+        ticks: 0,
+        bad: false,
+        bad_slots: 0,
+    },
     rotor_lock_ticks: 0,
     hall_still_ticks: 0,
     reference: 0,

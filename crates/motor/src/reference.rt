@@ -3,9 +3,8 @@ ghost use Rattle.std.specs.Prelude.{◌≡◌, ◌<◌};
 ghost use Rattle.std.specs.Int.Signed.{mag};
 ghost use Rattle.motor.specs.Reference.{times2048, target0, target1, target_of, toward, ramped, starting, ran, after};
 
-use crate::{AT_REST, NO_SLOTS, Run, Watched};
+use crate::{AT_REST, Run, Watched};
 use fields::Tick;
-use numbers::absolute;
 use settings::{CMD_GAIN, CMD_START, CONTROL_MODE, MIN_SPD, SETTING_COUNT, SPD_RAMP_RATE};
 
 fn times_2048(number: i32) -> i32
@@ -16,31 +15,27 @@ fn times_2048(number: i32) -> i32
 }
 
 #[tactic(auto, unfolding(crate::specs::Reference::target0))]
-fn target_0(minimum: u16, target: i16) -> i32
+fn mode_0_target(minimum: u16, target: i16) -> i32
     ensures value { result ≡ target0 minimum target }
     ensures small { mag result < 65536 }
 {
-    if absolute(target) < minimum {
-        if target < 0 {
-            return 0 - (minimum as i32);
-        }
-        return minimum as i32;
+    let minimum = i32::from(minimum);
+    let target = i32::from(target);
+    if target < 0 {
+        target.min(-minimum)
+    } else {
+        target.max(minimum)
     }
-    target as i32
 }
 
-fn target_1(minimum: u16, start: u16, gain: u16, control: u16) -> u32
-    ensures value { result ≡ target1 minimum start gain control }
-    ensures small { result < 65536 }
+fn mode_1_target(minimum: u16, start: u16, gain: u16, control: u16) -> u16
+    ensures { result ≡ target1 minimum start gain control }
 {
     if control < start {
-        return minimum as u32;
+        return minimum;
     }
-    let sum = (minimum as u32) + ((control - start) as u32) * (gain as u32) / 4096;
-    if 16383 < sum {
-        return 16383;
-    }
-    sum
+    let above = u32::from(control - start) * u32::from(gain) / 4096;
+    (u32::from(minimum) + above).min(16383) as u16
 }
 
 // The target of the ramp, in both modes.
@@ -49,15 +44,17 @@ fn target(settings: [u16; SETTING_COUNT], tick: Tick) -> i32
     ensures value { result ≡ target_of settings tick }
     ensures small { mag result < 65536 }
 {
+    let minimum = settings[MIN_SPD];
     if settings[CONTROL_MODE] == 1 {
-        return target_1(
-            settings[MIN_SPD],
+        i32::from(mode_1_target(
+            minimum,
             settings[CMD_START],
             settings[CMD_GAIN],
             tick.control,
-        ) as i32;
+        ))
+    } else {
+        mode_0_target(minimum, tick.target)
     }
-    target_0(settings[MIN_SPD], tick.target)
 }
 
 // The reference moved toward the target by at most the rate, without passing it.
@@ -65,16 +62,11 @@ fn target(settings: [u16; SETTING_COUNT], tick: Tick) -> i32
 fn toward(rate: u16, target: i32, reference: i32) -> i32
     ensures { result ≡ toward rate target reference }
 {
-    let goal = target as i64;
-    let above = (reference as i64) + (rate as i64);
-    if above < goal {
-        return above as i32;
-    }
-    let below = (reference as i64) - (rate as i64);
-    if goal < below {
-        return below as i32;
-    }
-    target
+    let rate = i32::from(rate);
+    target.clamp(
+        reference.saturating_sub(rate),
+        reference.saturating_add(rate),
+    )
 }
 
 // The reference after a tick that stays in MOTORRUN.
@@ -92,12 +84,9 @@ fn ramped(settings: [u16; SETTING_COUNT], tick: Tick, reference: i32) -> i32
 fn starting(tick: Tick) -> Run
     ensures { result ≡ starting tick }
 {
-    let slots = NO_SLOTS;
     Run {
-        slots,
-        rotor_lock_ticks: 0,
-        hall_still_ticks: 0,
-        reference: times_2048(tick.speed as i32),
+        reference: times_2048(i32::from(tick.speed)),
+        ..AT_REST
     }
 }
 
@@ -106,17 +95,16 @@ impl Run {
     fn ran(self, settings: [u16; SETTING_COUNT], tick: Tick, watched: Watched) -> Run
         ensures { result ≡ ran settings tick watched self }
     {
-        let slots = watched.slots;
-        let reference = ramped(settings, tick, self.reference);
         Run {
-            slots,
+            slots: watched.slots,
             rotor_lock_ticks: watched.rotor_lock_ticks,
             hall_still_ticks: watched.hall_still_ticks,
-            reference,
+            reference: ramped(settings, tick, self.reference),
         }
     }
 
-    // After a tick that stays in MOTORRUN, that enters it, or that ends in another state.
+    // After a tick that stays in MOTORRUN, that enters it, or that ends in another state. An enum of the three would be no plainer: each
+    // caller knows one of the two tests, and that the other fails.
     pub fn after(
         self,
         settings: [u16; SETTING_COUNT],
@@ -128,11 +116,11 @@ impl Run {
         ensures { result ≡ after settings tick watched stays enters self }
     {
         if stays {
-            return self.ran(settings, tick, watched);
+            self.ran(settings, tick, watched)
+        } else if enters {
+            starting(tick)
+        } else {
+            AT_REST
         }
-        if enters {
-            return starting(tick);
-        }
-        AT_REST
     }
 }

@@ -19,22 +19,7 @@ same_size (negsuc n) = refl
 
 -- the same grounds with the shaft turning the other way
 abbrev pub spun : Grounds → Grounds
-spun g =
-    record {
-      state = g.state;
-      settings = g.settings;
-      cycles = g.cycles;
-      measured = g.measured;
-      armed = g.armed;
-      retries = g.retries;
-      nth = g.nth;
-      clear = g.clear;
-      speed = neg_ℤ g.speed;
-      low = g.low;
-      high = g.high;
-      tripped = g.tripped;
-      blocked = g.blocked;
-    }
+spun g = record g { speed = neg_ℤ g.speed }
 
 own_same : (g : Grounds) (state : State) → own (spun g) state ≡ own g state
 own_same g Idle = refl

@@ -1,13 +1,12 @@
 // The moves: at most one a tick, by the state before it.
 #![tactic(auto)]
 
-ghost use Rattle.std.specs.Prelude.{cond, ◌≡◌, ◌*◌};
+ghost use Rattle.std.specs.Prelude.{◌≡◌};
 ghost use Rattle.states.specs.declared.State.TheVariants.{Fault};
 ghost use Rattle.moves.specs.Moves.{from_stop, from_offset_cal, from_bts_charge, from_catch_spin, from_angle_sensing};
-ghost use Rattle.moves.specs.Moves.{from_parking, from_open_loop, out_of, own, move_of};
+ghost use Rattle.moves.specs.Moves.{from_parking, from_open_loop, own, move_of};
 
 use faults::{Exit, from_fault};
-use numbers::absolute;
 use settings::{
     BTS_CHARGE_TIME, CONTROL_MODE, DIRECT_START_THR, IS_PULSES, MIN_SPD, OFFSET_PSC,
     OPEN_LOOP_RAMP, PARK_TIME, RETRY_LIMIT, SETTING_COUNT, T_CATCH_SPIN, samples,
@@ -42,86 +41,83 @@ pub struct Grounds {
     pub blocked: bool, // a live cause stands
 }
 
-fn pick_move(test: bool, yes: Move, no: Move) -> Move
-    ensures { result ≡ cond test yes no }
-{
-    if test { yes } else { no }
-}
-
-fn six_times(pulses: u16) -> u32
-    ensures { result ≡ 6 * pulses }
-{
-    6 * (pulses as u32)
-}
-
 fn from_stop(measured: bool, armed: bool, high: bool) -> Move
     ensures { result ≡ from_stop measured armed high }
 {
-    let start = pick_move(armed & high, Move::Enter(State::BtsCharge), Move::Stay);
-    pick_move(!measured, Move::Enter(State::OffsetCal), start)
+    if !measured {
+        Move::Enter(State::OffsetCal)
+    } else if armed && high {
+        Move::Enter(State::BtsCharge)
+    } else {
+        Move::Stay
+    }
 }
 
 fn from_offset_cal(settings: [u16; SETTING_COUNT], cycles: u32) -> Move
     ensures { result ≡ from_offset_cal settings cycles }
 {
-    pick_move(
-        samples(settings[OFFSET_PSC]) <= cycles,
-        Move::Measure,
-        Move::Stay,
-    )
+    if samples(settings[OFFSET_PSC]) <= cycles {
+        Move::Measure
+    } else {
+        Move::Stay
+    }
 }
 
 fn from_bts_charge(settings: [u16; SETTING_COUNT], cycles: u32) -> Move
     ensures { result ≡ from_bts_charge settings cycles }
 {
-    let charged = (settings[BTS_CHARGE_TIME] as u32) <= cycles;
-    pick_move(charged, Move::Enter(State::CatchSpin), Move::Stay)
+    if u32::from(settings[BTS_CHARGE_TIME]) <= cycles {
+        Move::Enter(State::CatchSpin)
+    } else {
+        Move::Stay
+    }
 }
 
-fn from_catch_spin(settings: [u16; SETTING_COUNT], n: u32, speed: u16) -> Move
-    ensures { result ≡ from_catch_spin settings n speed }
+fn from_catch_spin(settings: [u16; SETTING_COUNT], nth: u32, speed: u16) -> Move
+    ensures { result ≡ from_catch_spin settings nth speed }
 {
-    let time = settings[T_CATCH_SPIN] as u32;
-    let fast = settings[DIRECT_START_THR] < speed;
-    let caught = pick_move(
-        fast,
-        Move::Enter(State::MotorRun),
-        Move::Enter(State::AngleSensing),
-    );
-    let ends = pick_move(time <= n, caught, Move::Stay);
-    pick_move(time == 0, Move::Enter(State::AngleSensing), ends)
+    let time = u32::from(settings[T_CATCH_SPIN]);
+    if time == 0 {
+        Move::Enter(State::AngleSensing)
+    } else if nth < time {
+        Move::Stay
+    } else if settings[DIRECT_START_THR] < speed {
+        Move::Enter(State::MotorRun)
+    } else {
+        Move::Enter(State::AngleSensing)
+    }
 }
 
 fn from_angle_sensing(settings: [u16; SETTING_COUNT], cycles: u32) -> Move
     ensures { result ≡ from_angle_sensing settings cycles }
 {
-    let pulses = settings[IS_PULSES];
-    let sensed = six_times(pulses) <= cycles;
-    let ends = pick_move(sensed, Move::Enter(State::MotorRun), Move::Stay);
-    pick_move(pulses == 0, Move::Enter(State::Parking), ends)
+    let pulses = u32::from(settings[IS_PULSES]);
+    if pulses == 0 {
+        Move::Enter(State::Parking)
+    } else if 6 * pulses <= cycles {
+        Move::Enter(State::MotorRun)
+    } else {
+        Move::Stay
+    }
 }
 
-fn from_parking(settings: [u16; SETTING_COUNT], n: u32) -> Move
-    ensures { result ≡ from_parking settings n }
+fn from_parking(settings: [u16; SETTING_COUNT], nth: u32) -> Move
+    ensures { result ≡ from_parking settings nth }
 {
-    let parked = (settings[PARK_TIME] as u32) <= n;
-    pick_move(parked, Move::Enter(State::OpenLoop), Move::Stay)
+    if u32::from(settings[PARK_TIME]) <= nth {
+        Move::Enter(State::OpenLoop)
+    } else {
+        Move::Stay
+    }
 }
 
 fn from_open_loop(settings: [u16; SETTING_COUNT], speed: u16) -> Move
     ensures { result ≡ from_open_loop settings speed }
 {
-    let fast = (settings[OPEN_LOOP_RAMP] == 0) | (settings[MIN_SPD] <= speed);
-    pick_move(fast, Move::Enter(State::MotorRun), Move::Stay)
-}
-
-fn out_of(exit: Exit) -> Move
-    ensures { result ≡ out_of exit }
-{
-    match exit {
-        Exit::Stay => Move::Stay,
-        Exit::Clear => Move::Clear,
-        Exit::Retry => Move::Retry,
+    if settings[OPEN_LOOP_RAMP] == 0 || settings[MIN_SPD] <= speed {
+        Move::Enter(State::MotorRun)
+    } else {
+        Move::Stay
     }
 }
 
@@ -129,31 +125,32 @@ impl Grounds {
     fn leaving(self) -> Move
         ensures { result ≡ own self Fault }
     {
-        let settings = self.settings;
-        let timed = settings[CONTROL_MODE] == 1;
-        let limit = settings[RETRY_LIMIT] as u32;
-        out_of(from_fault(
+        let timed = self.settings[CONTROL_MODE] == 1;
+        let limit = u32::from(self.settings[RETRY_LIMIT]);
+        match from_fault(
             timed,
             limit,
             self.nth,
             self.retries,
             self.clear,
             self.blocked,
-        ))
+        ) {
+            Exit::Stay => Move::Stay,
+            Exit::Clear => Move::Clear,
+            Exit::Retry => Move::Retry,
+        }
     }
 
     fn own_move(self) -> Move
         ensures { result ≡ own self self.state }
     {
-        let state = self.state;
         let settings = self.settings;
-        let speed = absolute(self.speed);
-        match state {
-            State::Idle => Move::Stay,
+        let speed = self.speed.unsigned_abs();
+        match self.state {
+            State::Idle | State::MotorRun => Move::Stay,
             State::Stop => from_stop(self.measured, self.armed, self.high),
             State::OffsetCal => from_offset_cal(settings, self.cycles),
             State::BtsCharge => from_bts_charge(settings, self.cycles),
-            State::MotorRun => Move::Stay,
             State::Fault => self.leaving(),
             State::CatchSpin => from_catch_spin(settings, self.nth, speed),
             State::Parking => from_parking(settings, self.nth),
@@ -166,16 +163,12 @@ impl Grounds {
     pub fn move_of(self) -> Move
         ensures { result ≡ move_of self }
     {
-        let state = self.state;
-        let stops = pick_move(
-            state.is_turning() & self.low,
-            Move::Enter(State::Stop),
-            self.own_move(),
-        );
-        pick_move(
-            !(state.number() == 5) & self.tripped,
-            Move::Enter(State::Fault),
-            stops,
-        )
+        if self.state != State::Fault && self.tripped {
+            Move::Enter(State::Fault)
+        } else if self.state.is_turning() && self.low {
+            Move::Enter(State::Stop)
+        } else {
+            self.own_move()
+        }
     }
 }

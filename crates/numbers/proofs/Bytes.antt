@@ -1,7 +1,7 @@
 -- Numbers in bytes, one after the other: how many they are, where each stands, and that reading and writing are inverse.
 use mathlib.Core.Path.{◌≡◌, refl, sym, ap, ◌∙◌}
 use mathlib.Core.List.{List, [], ◌∷◌, ◌++◌}
-use Prim.Native.Nat.{ℕ, zero, suc, ◌+◌, ◌*◌, ◌/◌, ◌%◌, ◌≤◌, ◌<◌}
+use Prim.Native.Nat.{ℕ, zero, suc, ◌+◌, ◌*◌, ◌/◌, ◌%◌, ◌≤◌, ◌<◌, min}
 use native.Mathlib.Nat.{div-add-mod'}
 use native.Mathlib.Omega.{arith}
 use lib.Dec.{ltb, ltb→lt}
@@ -47,14 +47,23 @@ numbers_take (suc count) at n bytes room =
       numbers_take count (at + 2) n bytes (omega arith),
     )
 
--- the first of more numbers
-pub take-numbers : (count more at : ℕ) (bytes : List ℕ) → count ≤ more
-    → take count (numbers more at bytes) ≡ numbers count at bytes
-unfolding numbers
-take-numbers zero more at bytes fewer = refl
-take-numbers (suc count) zero at bytes fewer = absurd (omega arith)
-take-numbers (suc count) (suc more) at bytes fewer =
-    ap (λ (l : List ℕ). number at bytes ∷ l) (take-numbers count more (at + 2) bytes (omega arith))
+-- past the end stands 0, so a place there may as well be the last one that a width can tell
+pub number_capped : (at most : ℕ) (bytes : List ℕ) → length bytes ≤ most → number (min at most) bytes ≡ number at bytes
+number_capped at most bytes short =
+    decide (ltb most at)
+    (λ far.
+    let past : most < at = ltb→lt most at far in
+    let end : min at most ≡ most = omega arith in
+    rw (
+      end,
+      get_or-eq_default bytes 0 {n = most} short,
+      get_or-eq_default bytes 0 {n = most + 1} (omega arith),
+      get_or-eq_default bytes 0 {n = at} (omega arith),
+      get_or-eq_default bytes 0 {n = at + 1} (omega arith),
+    ))
+    (λ near.
+    let same : min at most ≡ at = omega (arith, ltb-false most at (is_false (ltb most at) near)) in
+    ap (λ (place : ℕ). number place bytes) same)
 
 -- bytes that come behind change nothing of those that are there
 module _ (a b : List ℕ) where

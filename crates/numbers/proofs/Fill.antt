@@ -1,12 +1,12 @@
 -- A loop that fills a list from its front: what is stored so far stands before the list as it was, and a turn stores one more.
-use Prim.Native.Nat.{ℕ, zero, suc, ◌+◌, ◌≤◌, ◌<◌}
+use Prim.Native.Nat.{ℕ, ◌+◌, ◌<◌}
 use native.Mathlib.Nat.{zero-add}
 use native.Mathlib.Numerals.{add-one}
 use native.Mathlib.Omega.{arith}
-use mathlib.Core.Path.{◌≡◌, refl, sym, ap, ◌∙◌}
-use mathlib.Core.List.{List, ◌∷◌, ◌++◌, append-nil}
-use lib.ListN.{length, get_or, take, drop, set, replicate, drop_of_length-le, length-take, take-append-drop, get_or-append}
-use lib.Seq.{paste-suc, take_all}
+use mathlib.Core.Path.{◌≡◌, sym, ap, ◌∙◌}
+use mathlib.Core.List.{List, ◌++◌}
+use lib.ListN.{length, get_or, take, drop, set, length-take, take-append-drop, get_or-append}
+use lib.Seq.{paste-suc}
 
 -- the first i elements are those of the new list
 abbrev pub filled : List ℕ → List ℕ → ℕ → List ℕ
@@ -21,15 +21,6 @@ pub filled_more :
 filled_more old new i room some is =
     let inside : 0 + i < length old = omega arith in
     rw (is, add-one) (simp zero-add at (paste-suc old 0 new i 0 inside some))
-
-pub filled_all : (old new : List ℕ) (i : ℕ) → length old ≤ i → length new ≤ i → filled old new i ≡ new
-filled_all old new i whole all = rw (take_all i new all, drop_of_length-le old whole, append-nil)
-
--- the first of so many equal ones; said of any number of them, since thousands are too many to write out
-pub take-replicate : (k n a : ℕ) → k ≤ n → take k (replicate n a) ≡ replicate k a
-take-replicate zero n a fits = refl
-take-replicate (suc k) zero a fits = absurd (omega arith)
-take-replicate (suc k) (suc n) a fits = ap (λ (l : List ℕ). a ∷ l) (take-replicate k n a (omega arith))
 
 -- the first n elements are those of the list
 pub first_at : (n : ℕ) (list : List ℕ) (i : ℕ) → i < n → i < length list → get_or (take n list) i 0 ≡ get_or list i 0

@@ -1,7 +1,5 @@
 -- What the proofs of the crates above cite.
 pub mod Table
-pub mod Sums
-pub mod Order
 pub mod Tests
 pub mod Fill
 pub mod Bytes

@@ -1,12 +1,14 @@
 -- Each field that he keeps follows the history's own recursion, note by note; the numbers are exact while 64 bits hold them.
-use Prim.Native.Nat.{suc, ◌≤◌}
+use Prim.Native.Nat.{ℕ, suc, ◌≤◌}
 use native.Mathlib.Omega.{arith}
 use mathlib.Core.Path.{◌≡◌, refl, ap, ◌∙◌}
-use mathlib.Core.Bool.{Bool, true, false, not, ◌&&◌, ◌||◌, cond}
+use mathlib.Core.Bool.{Bool, true, false, ◌&&◌, ◌||◌, cond}
 use mathlib.Core.List.{List, [], ◌∷◌}
-use lib.Dec.{T, eqb}
+use lib.Dec.{T}
 use lib.ListN.{length}
-use borrow.Author.Tests.{ne_eqb}
+use Rattle.std.specs.Prelude.{None, Some, is_some}
+use Rattle.std.proofs.lemmas.Bool.Decides.{nat_tests}
+use Rattle.std.proofs.lemmas.Grind.{common_steps}
 use Rattle.numbers.specs.Count.{up}
 use Rattle.drive.specs.AnyCall.{Call}
 use Rattle.drive.specs.declared.answer.Answer.{Answer}
@@ -30,26 +32,16 @@ kept [] = Rattle.onlooker.specs.Past.nothing
 kept (call ∷ past) = next (kept past) call
 
 -- a place is named exactly where `since` finds one
-pub since_named : (keep mark : Seen → Bool) (past : List Seen) → not (eqb (since_at keep mark past) 0) ≡ since keep mark past
+pub since_named : (keep mark : Seen → Bool) (past : List Seen) → is_some (since_at keep mark past) ≡ since keep mark past
 unfolding since_at
 since_named keep mark [] = refl
-since_named keep mark (call ∷ past) = named (mark call) (keep call) (since_named keep mark past) where
-  named : (marked kept : Bool) → not (eqb (since_at keep mark past) 0) ≡ since keep mark past
-      → not (eqb (cond marked (suc (length past)) (cond kept (since_at keep mark past) 0)) 0) ≡ (marked || kept && since keep mark past)
-  named true kept before = rw (ne_eqb (suc (length past)) 0 (omega arith))
-  named false true before = before
-  named false false before = refl
+since_named keep mark (call ∷ past) = grind (arith, common_steps, since_named keep mark past)
 
 -- the retries are at most as many as the calls
 retries_within_lem : (past : List Seen) → History.retries past ≤ length past
 unfolding History.retries
 retries_within_lem [] = omega arith
-retries_within_lem (call ∷ past) = within (call.loaded || History.cleared call) (retried call) (retries_within_lem past) where
-  within : (none one : Bool) → History.retries past ≤ length past
-      → cond none 0 (cond one (suc (History.retries past)) (History.retries past)) ≤ suc (length past)
-  within true one before = omega arith
-  within false true before = omega arith
-  within false false before = omega arith
+retries_within_lem (call ∷ past) = grind (arith, nat_tests, retries_within_lem past)
 
 pub record Keeps (p : Past) (past : List Seen) : Type 0 where
   pub heard : p.heard ≡ length past
@@ -82,7 +74,7 @@ keeps_next p call past short k =
     in
     record {
       heard = counted-heard;
-      loaded = rw k.loaded (or_true call.loaded (History.ever_loaded past));
+      loaded = rw k.loaded;
       low = rw (counted-heard, k.low);
       retry = rw (counted-heard, k.retry);
       retries = rw (counted-retries, k.retries);
@@ -91,10 +83,6 @@ keeps_next p call past short k =
       permitted = rw k.permitted (permitted_before call.started);
     }
   where
-    or_true : (now before : Bool) → (now || before) ≡ (now || true && before)
-    or_true true before = refl
-    or_true false before = refl
-
     permitted_before : (started : Bool)
         → cond started (permits p) (History.permitted (History.before_start past))
         ≡ History.permitted (cond started past (History.before_start past))
@@ -132,15 +120,19 @@ noted_length (e ∷ before) = ap suc (noted_length before)
 
 -- "the low that it names is the last one that `low_since` accepts, the retry the one that `retry_since` does": both are `since`
 pub names_the_last : (keep mark : Seen → Bool) (past : List Seen)
-    → T (since keep mark past) → Named keep mark past (since_at keep mark past)
+    → T (since keep mark past) → (number : ℕ) × (since_at keep mark past ≡ Some number) × Named keep mark past number
 unfolding since_at
 names_the_last keep mark [] found = absurd found
 names_the_last keep mark (call ∷ past) found = last (mark call) (keep call) refl refl found (names_the_last keep mark past) where
   last : (marked kept : Bool) → marked ≡ mark call → kept ≡ keep call → T (marked || kept && since keep mark past)
-      → (T (since keep mark past) → Named keep mark past (since_at keep mark past))
-      → Named keep mark (call ∷ past) (cond marked (suc (length past)) (cond kept (since_at keep mark past) 0))
-  last true kept m k t before = newest call past (rw (← m) tt)
-  last false true m k t before = earlier call past (since_at keep mark past) (rw (← m) tt) (rw (← k) tt) (before t)
+      → (T (since keep mark past) → (number : ℕ) × (since_at keep mark past ≡ Some number) × Named keep mark past number)
+      → (number : ℕ)
+      × (cond marked (Some (suc (length past))) (cond kept (since_at keep mark past) None) ≡ Some number)
+      × Named keep mark (call ∷ past) number
+  last true kept m k t before = (suc (length past), refl, newest call past (rw (← m) tt))
+  last false true m k t before =
+      let there = before t in
+      (there.0, there.1, earlier call past there.0 (rw (← m) tt) (rw (← k) tt) there.2)
   last false false m k t before = absurd t
 
 -- the three rules, with one note more
@@ -201,4 +193,4 @@ last_low (e ∷ before) short =
     in
     let past = notes words before in
     rw (counted, last_low before shorter)
-    (ap (λ (s : Seen). cond s.low (suc (length past)) (since_at (λ call. true) (λ call. call.low) past)) (noted_alike e before))
+    (ap (λ (s : Seen). cond s.low (Some (suc (length past))) (since_at (λ call. true) (λ call. call.low) past)) (noted_alike e before))

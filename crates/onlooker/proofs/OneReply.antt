@@ -7,23 +7,11 @@ use Rattle.onlooker.specs.contracts
 pub new : OneReply contracts.Onlooker.new.ended promises.Onlooker.new.Reads.Post
 new κs given r s p q = same (p ∙⁻¹ q) refl
 
-pub load : OneReply contracts.Onlooker.load.ended promises.Onlooker.load.Reads.Post
-load κs given r s p q = same (p ∙⁻¹ q) refl
+pub hear : OneReply contracts.Onlooker.hear.ended promises.Onlooker.hear.Reads.Post
+hear κs given r s p q = same (p ∙⁻¹ q) refl
 
-pub cycle : OneReply contracts.Onlooker.cycle.ended promises.Onlooker.cycle.Reads.Post
-cycle κs given r s p q = same (p ∙⁻¹ q) refl
-
-pub tick : OneReply contracts.Onlooker.tick.ended promises.Onlooker.tick.Reads.Post
-tick κs given r s p q = same (p ∙⁻¹ q) refl
-
-pub witness_load : OneReply contracts.witness.Heard.load.ended promises.witness.Heard.load.Reads.Post
-witness_load κs given r s p q = same (p ∙⁻¹ q) refl
-
-pub witness_cycle : OneReply contracts.witness.Heard.cycle.ended promises.witness.Heard.cycle.Reads.Post
-witness_cycle κs given r s p q = same (p ∙⁻¹ q) refl
-
-pub witness_tick : OneReply contracts.witness.Heard.tick.ended promises.witness.Heard.tick.Reads.Post
-witness_tick κs given r s p q = same (p ∙⁻¹ q) refl
+pub witness_call : OneReply contracts.witness.Heard.call.ended promises.witness.Heard.call.Reads.Post
+witness_call κs given r s p q = same (p ∙⁻¹ q) refl
 
 pub plug_new : OneReply contracts.plug.Plug.new.ended promises.plug.Plug.new.Reads.Post
 plug_new κs given r s p q = same (p ∙⁻¹ q) refl

@@ -1,21 +1,19 @@
 -- The onlooker of demand 3 as code: what he is after one call more with its answer. His memory and his note are the history's own
 -- (`remember` and `note` of `theorems_history`), but that he counts the ticks in FAULT no further than he asks.
-use Rattle.std.specs.Prelude.{ℕ, min, Bool, true, false, not, ◌&&◌, ◌||◌, cond, List, eqb, leb, replicate}
+use Rattle.std.specs.Prelude.{ℕ, min, Bool, true, false, cond, eqb, replicate}
 use Rattle.numbers.specs.Count.{up}
 use Rattle.settings.specs.Settings.{all_settings}
-use Rattle.fields.specs.declared.Tick.{Tick}
 use Rattle.drive.specs.AnyCall.{Call}
 use Rattle.drive.specs.declared.answer.Answer.{Answer}
 use Rattle.theorems_history.specs.Log.{Entry}
 use Rattle.theorems_history.specs.Onlooker.{remember, note}
 use Rattle.theorems_history.specs.Onlooker.{Memory as Remembered}
 use Rattle.theorems_history.specs.History.{Seen}
-use Rattle.onlooker.specs.Words.{words, is_mode1, low_of, high_of, cause_of, dead_cause_of, setting}
-use Rattle.onlooker.specs.Past.{note_of, nothing, next, rules}
+use Rattle.onlooker.specs.Words.{words}
+use Rattle.onlooker.specs.Past.{nothing, next, rules}
 use Rattle.onlooker.specs.Scene.{dark, scene}
 use Rattle.onlooker.specs.declared.Memory.{Memory}
 use Rattle.onlooker.specs.declared.Onlooker.{Onlooker}
-use Rattle.onlooker.specs.declared.notes.Asked.{Asked}
 use Rattle.onlooker.specs.declared.past.Seen.{Seen as Noted}
 
 -- "from its 10,000th tick on"
@@ -89,48 +87,6 @@ unfoldable pub hears : Onlooker → Entry Call Answer → Onlooker
 hears o e =
     follows o (held (remember words (recalled o.memory) e)) (note words (recalled o.memory) e) e.answer
 
--- ---- the steps in which the code makes the note
-
-abbrev pub neither : Asked
-neither = record { loaded = false; ticked = false; low = false; high = false; clear = false; cause = false }
-
-abbrev pub asked_by_load : Bool → Asked
-asked_by_load accepted = record { loaded = accepted; ticked = false; low = false; high = false; clear = false; cause = false }
-
-abbrev pub asked_by_tick : Bool → List ℕ → Tick → Asked
-asked_by_tick accepted numbers t =
-    record {
-      loaded = false;
-      ticked = accepted;
-      low = accepted && low_of numbers t;
-      high = accepted && high_of numbers t;
-      clear = accepted && eqb t.clear 1;
-      cause = accepted && cause_of numbers t;
-    }
-
-abbrev pub waited_after : Memory → Bool → Bool → ℕ
-waited_after before loaded ticked =
-    cond (eqb before.shown 5 && not loaded) (cond ticked (up wait before.waited) (min before.waited wait)) 0
-
--- the history's note, where what the call asks is told by six tests
-abbrev pub seen_by : Memory → Memory → Asked → Answer → Noted
-seen_by before now asked answer =
-    record {
-      loaded = asked.loaded;
-      low = asked.low;
-      started = eqb now.shown 3 && eqb before.shown 1 && asked.high;
-      began =
-          words.is_running now.shown && not (words.is_running before.shown)
-          || eqb now.shown 3 && not (eqb before.shown 3);
-      exited = eqb before.shown 5 && not (eqb now.shown 5);
-      clear = asked.clear;
-      due = asked.ticked && is_mode1 now.numbers && leb wait now.waited;
-      cause_stood = asked.cause || dead_cause_of now.numbers now.dead;
-      limit = setting 24 now.numbers;
-      live_shown = not (eqb answer.live 0);
-      running = words.is_running now.shown;
-      turns = not (eqb answer.gate 0 || eqb answer.gate 3);
-    }
-
-abbrev pub heard_with : Onlooker → Memory → Asked → Answer → Onlooker
-heard_with o now asked answer = follows o now (note_of (seen_by o.memory now asked answer)) answer
+-- the ticks in FAULT with one call more that loads nothing, as the code counts them
+abbrev pub waited_after : Memory → Bool → ℕ
+waited_after before ticked = cond (eqb before.shown 5) (cond ticked (up wait before.waited) (min before.waited wait)) 0

@@ -1,6 +1,6 @@
 -- What the onlooker keeps of all his notes, so that one note more is enough to judge demand 3 again and to say by what a start was
 -- permitted. That each field is what the history's rule says of the whole list of notes: specs/Tells.antt, proofs/Follows.antt.
-use Rattle.std.specs.Prelude.{ℕ, Bool, false, not, ◌&&◌, ◌||◌, cond, eqb, leb}
+use Rattle.std.specs.Prelude.{ℕ, Bool, false, not, ◌&&◌, ◌||◌, cond, leb, None, Some, is_some}
 use Rattle.numbers.specs.Count.{up}
 use Rattle.theorems_history.specs.History as History
 use Rattle.theorems_history.specs.History.{Seen, whenever, cleared, retried, no_load_nor_start, none_of_these, ends_start}
@@ -30,13 +30,14 @@ note_of n =
       turns = n.turns;
     }
 
--- before the first note; the record's number 0 is none
+-- before the first note
 abbrev pub nothing : Past
-nothing = record { heard = 0; loaded = false; low = 0; retry = 0; retries = 0; faulted = false; taken = false; permitted = false }
+nothing =
+    record { heard = 0; loaded = false; low = None; retry = None; retries = 0; faulted = false; taken = false; permitted = false }
 
 -- what came before permits a start: a load, and since then a low or, "failing that", a timed retry
 abbrev pub permits : Past → Bool
-permits past = past.loaded && (not (eqb past.low 0) || not (eqb past.retry 0))
+permits past = past.loaded && (is_some past.low || is_some past.retry)
 
 -- with one note more
 unfoldable pub next : Past → Seen → Past
@@ -44,8 +45,9 @@ next past call =
     record {
       heard = up most past.heard;
       loaded = call.loaded || past.loaded;
-      low = cond (call.low && none_of_these call) (up most past.heard) (cond (none_of_these call) past.low 0);
-      retry = cond (retried call && no_load_nor_start call) (up most past.heard) (cond (none_of_these call) past.retry 0);
+      low = cond (call.low && none_of_these call) (Some (up most past.heard)) (cond (none_of_these call) past.low None);
+      retry =
+          cond (retried call && no_load_nor_start call) (Some (up most past.heard)) (cond (none_of_these call) past.retry None);
       retries = cond (call.loaded || cleared call) 0 (cond (retried call) (up most past.retries) past.retries);
       faulted = History.faulted call past.faulted;
       taken = call.started && not (ends_start call) || not (ends_start call) && past.taken;

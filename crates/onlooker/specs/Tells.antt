@@ -1,6 +1,6 @@
 -- What he says of a log is what the history's rule says of it. A log is any list of calls with answers, the newest first: whoever gave
 -- the answers, this drive or a board with other firmware.
-use Rattle.std.specs.Prelude.{ℕ, suc, ◌≡◌, Bool, not, ◌&&◌, cond, List, [], ◌∷◌, T, length}
+use Rattle.std.specs.Prelude.{ℕ, suc, ◌≡◌, Bool, not, ◌&&◌, cond, List, [], ◌∷◌, T, length, Option, None, Some}
 use Rattle.drive.specs.AnyCall.{Call}
 use Rattle.drive.specs.declared.answer.Answer.{Answer}
 use Rattle.theorems_history.specs.Log.{Entry}
@@ -16,10 +16,10 @@ unfoldable pub heard_of : List (Entry Call Answer) → Onlooker
 heard_of [] = nothing_heard
 heard_of (e ∷ before) = hears (heard_of before) e
 
--- `since` as a place: the number, from 1, of the last call that is marked, where every later one is kept; 0 where there is none
-unfoldable pub since_at : (Seen → Bool) → (Seen → Bool) → List Seen → ℕ
-since_at keep mark [] = 0
-since_at keep mark (call ∷ past) = cond (mark call) (suc (length past)) (cond (keep call) (since_at keep mark past) 0)
+-- `since` as a place: the number, from 1, of the last call that is marked, where every later one is kept
+unfoldable pub since_at : (Seen → Bool) → (Seen → Bool) → List Seen → Option ℕ
+since_at keep mark [] = None
+since_at keep mark (call ∷ past) = cond (mark call) (Some (suc (length past))) (cond (keep call) (since_at keep mark past) None)
 
 -- the call of this number is marked; every later one is kept, and none of them is marked
 pub data Named (keep mark : Seen → Bool) : List Seen → ℕ → Type 0 where
@@ -32,10 +32,10 @@ pub data Named (keep mark : Seen → Bool) : List Seen → ℕ → Type 0 where
       → Named keep mark (call ∷ past) number
 
 -- the low that `low_since` accepts, and the timed retry that `retry_since` does
-abbrev pub low_at : List Seen → ℕ
+abbrev pub low_at : List Seen → Option ℕ
 low_at past = since_at none_of_these (λ call. call.low && none_of_these call) past
 
-abbrev pub retry_at : List Seen → ℕ
+abbrev pub retry_at : List Seen → Option ℕ
 retry_at past = since_at none_of_these (λ call. History.retried call && no_load_nor_start call) past
 
 -- what he says after a log

@@ -1,2 +1,3 @@
 pub mod Between
 pub mod Reads
+pub mod Turn

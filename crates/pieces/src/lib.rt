@@ -2,19 +2,16 @@
 // the next piece is read behind them, and a call that fails is told on standard error.
 #![tactic(auto)]
 
-ghost use Rattle.std.specs.Prelude.{true, ◌≡◌, ◌++◌, min, length, drop};
+mod serving;
+
+ghost use Rattle.std.specs.Prelude.{true, ◌≡◌, ◌++◌, length, drop};
 ghost use Rattle.pieces.specs.Between.{between};
 ghost use Rattle.pieces.specs.Reads.{Reads};
 
+pub use serving::{Names, serve};
 use std::fmt::InlineText;
 use std::io::{Error, ErrorKind, Input, Read};
 use std::str::from_utf8;
-
-fn least(a: usize, b: usize) -> usize
-    ensures { result ≡ min a b }
-{
-    if a < b { a } else { b }
-}
 
 // Moves the bytes from one place up to another to the front, and tells how many they are. Where the places lie past the end, or the
 // second before the first, there are fewer or none.
@@ -23,23 +20,16 @@ pub fn move_to_front(bytes: &mut [u8], from: usize, to: usize) -> usize
     ensures lent { bytes.new
         ≡ between from to bytes.old ++ drop (length (between from to bytes.old)) bytes.old }
 {
-    let end = least(to, bytes.len());
-    let mut count = 0;
-    let mut next = from;
-    while next < end {
-        bytes[count] = bytes[next];
-        count += 1;
-        next += 1;
-    }
-    count
+    let end = to.min(bytes.len());
+    let from = from.min(end);
+    bytes.copy_within(from..end, 0);
+    end - from
 }
 
 // The system's words for an error, without the number that is told behind them.
 fn words(told: &str) -> &str {
-    match told.split_once(" (os error ") {
-        Some((words, _)) => words,
-        None => told,
-    }
+    told.split_once(" (os error ")
+        .map_or(told, |(words, _)| words)
 }
 
 // Tells on standard error, in a line, what failed, as the caller names it, and why. Where that cannot be told nothing is left to do.
@@ -57,46 +47,31 @@ fn tell(rt: &impl Eprint, what: &[u8], error: Error) {
     }
 }
 
-// What one read brought. None without a failure is the end of the input.
-#[derive(Clone, Copy)]
-pub struct Piece {
-    pub brought: usize,
-    pub failed: bool,
-}
-
-// Reads from standard input once, behind the bytes that are held. A failure is told under the name `what`.
-pub fn read_behind(rt: &(impl Input + Eprint), bytes: &mut [u8], held: usize, what: &[u8]) -> Piece
+// Reads from standard input once, behind the bytes that are held, and tells how many came: 0 at the end of the input, and nothing where
+// the read fails. A failure is told under the name `what`.
+pub fn read_behind(
+    rt: &(impl Input + Eprint),
+    bytes: &mut [u8],
+    held: usize,
+    what: &[u8],
+) -> Option<usize>
     ensures { Reads held bytes.old bytes.new result }
 {
-    let at = least(held, bytes.len());
-    match rt.reader().read(&mut bytes[at..]) {
-        Ok(brought) => Piece {
-            brought,
-            failed: false,
-        },
-        Err(error) => {
-            tell(rt, what, error);
-            Piece {
-                brought: 0,
-                failed: true,
-            }
-        }
-    }
+    let at = held.min(bytes.len());
+    rt.reader()
+        .read(&mut bytes[at..])
+        .map_err(|error| tell(rt, what, error))
+        .ok()
 }
 
-// Writes all of the bytes to standard output, and tells whether they were written; none always are. A failure is told under the name
-// `what`.
+// Writes all of the bytes to standard output, and tells whether they were written; none always are. A failure is told here, under the
+// name `what`, so that a Result would carry nothing more.
 pub fn write_out(rt: &(impl Print + Eprint), bytes: &[u8], what: &[u8]) -> bool
     ensures { length bytes.now ≡ 0 → result ≡ true }
 {
-    if bytes.len() == 0 {
-        return true;
-    }
-    match rt.write_all(bytes) {
-        Ok(()) => true,
-        Err(error) => {
-            tell(rt, what, error);
-            false
-        }
-    }
+    bytes.is_empty()
+        || rt
+            .write_all(bytes)
+            .map_err(|error| tell(rt, what, error))
+            .is_ok()
 }

@@ -3,11 +3,11 @@
 // judge has to say.
 #![tactic(auto)]
 
-ghost use Rattle.std.specs.Prelude.{◌≡◌, ◌≤◌, length};
-ghost use Rattle.program_judge.specs.Rest.{Rest, Kept};
+ghost use Rattle.std.specs.Prelude.{◌≡◌, ◌+◌, ◌^◌, ◌≤◌, ◌<◌, length, IfSome};
+ghost use Rattle.program_judge.specs.Rest.{Left, Rest};
 
 use judge::sentences::{VERDICT_SIZE, verdict};
-use judge::{Judge, LINES, NOTHING, RECORDS, TURN, run};
+use judge::{Arrived, Judge, Wants, run};
 use pieces::{fail, move_to_front, read_behind, write_out};
 use records::{INPUT_SIZE, OUTPUT_SIZE};
 use std::env::{Env, FillError};
@@ -19,169 +19,149 @@ use std::str::from_utf8;
 // Where the launcher puts the board's lines: descriptor 3.
 const LINES_DESCRIPTOR: &str = "/dev/fd/3";
 
-// A read has failed.
-const FAILED: u8 = 4;
+// What is held of a stream from one read to the next: how many bytes at the front of its buffer are not judged yet, and whether no more
+// of it will come.
+#[derive(Clone, Copy, Default)]
+struct Stream {
+    held: usize,
+    over: bool,
+}
 
-// What the program holds from one read to the next: the judge, how many bytes at the front of each buffer are not judged yet, whether more
-// of each may come, and what is wanted next.
+impl Stream {
+    // Moves what was not taken to the front of the buffer.
+    fn left(self, bytes: &mut [u8], taken: usize) -> Stream
+        requires { self.held ≤ length bytes.old }
+        ensures within { result.held ≤ length bytes.old }
+        ensures left { Left taken bytes.old bytes.new self result }
+    {
+        Stream {
+            held: move_to_front(bytes, taken, self.held),
+            over: self.over,
+        }
+    }
+
+    // Reads once behind the bytes that are held. A read of no bytes is the end, and one that fails, told under this name, leaves nothing.
+    fn read_on(
+        self,
+        rt: &impl Eprint,
+        from: &mut impl Read,
+        bytes: &mut [u8],
+        name: &[u8],
+    ) -> Option<Stream>
+        requires { self.held ≤ length bytes.old }
+        ensures { IfSome result (λ next. next.held ≤ length bytes.old) }
+    {
+        let brought = from
+            .read(&mut bytes[self.held..])
+            .map_err(|error| fail(rt, name, error))
+            .ok()?;
+        Some(self.grown(brought))
+    }
+
+    // With so many bytes more behind those that are held.
+    fn grown(self, brought: usize) -> Stream
+        requires { self.held + brought < 2 ^ 64 }
+        ensures { result.held ≡ self.held + brought }
+    {
+        Stream {
+            held: self.held + brought,
+            over: self.over || brought == 0,
+        }
+    }
+}
+
+// What the program holds from one turn to the next, beside the buffers, and what is wanted next.
 #[derive(Clone, Copy)]
 struct Held {
     judge: Judge,
-    count: usize,
-    closed: bool,
-    lines: usize,
-    finished: bool,
-    wants: u8,
+    records: Stream,
+    lines: Stream,
+    wants: Wants,
 }
 
 // Judges what is held, and moves what is left to the front of each buffer.
 fn judged(held: Held, input: &mut [u8], lines: &mut [u8]) -> Held
-    requires { (held.count ≤ length input.old) × (held.lines ≤ length lines.old) }
-    ensures within { (result.count ≤ length input.old) × (result.lines ≤ length lines.old) }
+    requires { (held.records.held ≤ length input.old) × (held.lines.held ≤ length lines.old) }
+    ensures within { (result.records.held ≤ length input.old) × (result.lines.held ≤ length lines.old) }
     ensures rest { Rest input.old input.new lines.old lines.new held result }
 {
-    let judge = held.judge;
-    let count = held.count;
+    let records = held.records;
     let printed = held.lines;
     let ran = run(
-        judge,
-        &input[..count],
-        held.closed,
-        &lines[..printed],
-        held.finished,
+        held.judge,
+        Arrived {
+            bytes: &input[..records.held],
+            over: records.over,
+        },
+        Arrived {
+            bytes: &lines[..printed.held],
+            over: printed.over,
+        },
     );
-    let judge = ran.judge;
-    let taken = ran.taken;
-    let read = ran.lines;
     Held {
-        judge,
-        count: move_to_front(input, taken, count),
-        closed: held.closed,
-        lines: move_to_front(lines, read, printed),
-        finished: held.finished,
+        judge: ran.judge,
+        records: records.left(input, ran.taken),
+        lines: printed.left(lines, ran.lines),
         wants: ran.wants,
     }
 }
 
-// Reads records once behind those that are held. A read of no bytes is their end.
-fn read_records(rt: &(impl Input + Eprint), held: Held, input: &mut [u8]) -> Held
-    requires { held.count ≤ length input.old }
-    ensures within { result.count ≤ length input.old }
-    ensures kept { Kept held result × (result.lines ≡ held.lines) × (result.finished ≡ held.finished) }
-{
-    let count = held.count;
-    let piece = read_behind(rt, input, count, b"why: standard input");
-    let brought = piece.brought;
-    let mut next = held;
-    next.count = count + brought;
-    next.closed = held.closed | (brought == 0);
-    next.wants = if piece.failed { FAILED } else { TURN };
-    next
-}
-
-// The same of the lines.
-fn read_lines(rt: &impl Eprint, held: Held, from: &mut impl Read, lines: &mut [u8]) -> Held
-    requires { held.lines ≤ length lines.old }
-    ensures within { result.lines ≤ length lines.old }
-    ensures kept { Kept held result × (result.count ≡ held.count) × (result.closed ≡ held.closed) }
-{
-    let printed = held.lines;
-    let mut next = held;
-    match from.read(&mut lines[printed..]) {
-        Ok(brought) => {
-            next.lines = printed + brought;
-            next.finished = held.finished | (brought == 0);
-            next.wants = TURN;
-        }
-        Err(error) => {
-            fail(rt, b"why: the board's lines", error);
-            next.wants = FAILED;
-        }
-    }
-    next
-}
-
-fn turn(
-    rt: &(impl Input + Eprint),
-    held: Held,
-    from: &mut impl Read,
-    input: &mut [u8],
-    lines: &mut [u8],
-) -> Held
-    requires { (held.count ≤ length input.old) × (held.lines ≤ length lines.old) }
-    ensures { (result.count ≤ length input.old) × (result.lines ≤ length lines.old) }
-{
-    let held = judged(held, input, lines);
-    if held.wants == RECORDS {
-        return read_records(rt, held, input);
-    }
-    if held.wants == LINES {
-        return read_lines(rt, held, from, lines);
-    }
-    held
-}
-
-// A proved loop has to end, and nothing says that the input does: the turns are counted down from a number that no run uses up.
+// Hands on the judge to whom nothing more is wanted, and none where a read fails. A proved loop has to end, and nothing says that the
+// input does: no run uses up so many turns.
 fn serve(
     rt: &(impl Input + Eprint),
     from: &mut impl Read,
     input: &mut [u8],
     lines: &mut [u8],
-) -> Held {
-    let mut turns = u64::MAX;
+) -> Option<Judge> {
     let mut held = Held {
         judge: Judge::new(),
-        count: 0,
-        closed: false,
-        lines: 0,
-        finished: false,
-        wants: TURN,
+        records: Stream::default(),
+        lines: Stream::default(),
+        wants: Wants::Turn,
     };
-    while turns > 0 && held.wants == TURN {
-        held = turn(rt, held, from, input, lines);
-        turns -= 1;
-    }
-    held
-}
-
-// The file of a name, as text is wanted by whoever opens it.
-fn opened<R: Files + Eprint>(rt: &R, path: &str) -> Option<R::File> {
-    match fs::open(rt, path) {
-        Ok(file) => Some(file),
-        Err(error) => {
-            fail(rt, b"why: the board's lines", error);
-            None
+    for _ in 0..u64::MAX {
+        held = judged(held, input, lines);
+        match held.wants {
+            Wants::Turn => {}
+            Wants::Records => {
+                let count = held.records.held;
+                let brought = read_behind(rt, input, count, b"why: standard input")?;
+                held.records = held.records.grown(brought);
+            }
+            Wants::Lines => {
+                held.lines = held
+                    .lines
+                    .read_on(rt, from, lines, b"why: the board's lines")?;
+            }
+            Wants::Nothing => return Some(held.judge),
         }
     }
-}
-
-// A name that is longer than a path may be, or no text.
-fn fail_name(rt: &impl Eprint, words: &str) {
-    let error = Error::new(ErrorKind::InvalidFilename, words);
-    fail(rt, b"why: the name of the board's lines", error);
+    None
 }
 
 // The board's lines, none where they cannot be opened.
 fn lines_from<R: Env + Files + Eprint>(rt: &R) -> Option<R::File> {
-    let mut path = [0u8; 4096];
-    match rt.arg(1, &mut path) {
-        Ok(length) => match from_utf8(&path[..length]) {
-            Ok(path) => opened(rt, path),
-            Err(_) => {
-                fail_name(rt, "Invalid UTF-8");
-                None
-            }
-        },
-        Err(FillError::NotPresent) => opened(rt, LINES_DESCRIPTOR),
-        Err(FillError::TooLong) => {
-            fail_name(rt, "File name too long");
+    let mut argument = [0; 4096];
+    let name = match rt.arg(1, &mut argument) {
+        Ok(length) => from_utf8(&argument[..length]).map_err(|_| "Invalid UTF-8"),
+        Err(FillError::NotPresent) => Ok(LINES_DESCRIPTOR),
+        Err(FillError::TooLong) => Err("File name too long"),
+    };
+    match name {
+        Ok(path) => fs::open(rt, path)
+            .map_err(|error| fail(rt, b"why: the board's lines", error))
+            .ok(),
+        Err(words) => {
+            let error = Error::new(ErrorKind::InvalidFilename, words);
+            fail(rt, b"why: the name of the board's lines", error);
             None
         }
     }
 }
 
 fn tell(rt: &(impl Print + Eprint), judge: Judge) {
-    let mut output = [0u8; VERDICT_SIZE];
+    let mut output = [0; VERDICT_SIZE];
     let said = verdict(judge, &mut output);
     write_out(rt, &output[..said], b"why: standard output");
 }
@@ -190,10 +170,9 @@ fn main(rt: HostRuntime) {
     let Some(mut from) = lines_from(&rt) else {
         return;
     };
-    let mut input = [0u8; INPUT_SIZE];
-    let mut lines = [0u8; OUTPUT_SIZE];
-    let held = serve(&rt, &mut from, &mut input, &mut lines);
-    if held.wants == NOTHING {
-        tell(&rt, held.judge);
+    let mut input = [0; INPUT_SIZE];
+    let mut lines = [0; OUTPUT_SIZE];
+    if let Some(judge) = serve(&rt, &mut from, &mut input, &mut lines) {
+        tell(&rt, judge);
     }
 }

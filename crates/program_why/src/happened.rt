@@ -1,124 +1,119 @@
-// What happened, as sentences: a refusal, a load, an exit from FAULT, a start, a stop.
-ghost use Rattle.std.specs.Prelude.{◌≤◌};
-
+// What happened, as sentences: a refusal, a load, an exit from FAULT, a start, a stop. Refusals and states are the paper's numbers, as answers
+// have them (`drive` src/answer.rt says why).
 use crate::event::Event;
-use crate::sentence::{Sentence, numbered, plain, worded};
-use crate::words::{
-    BEGAN, LEFT, LEFT_BY_CLEAR, LEFT_BY_RETRY, LOADED, LOADED_FOR_THREE_AGAIN,
-    LOADED_FOR_TWO_SENSORS, LOADED_WITH_RETRIES, LOADED_WITH_RETRY, NO_NUMBER, NO_SETTINGS,
-    NOTHING, STARTED, STARTED_BY_LOW, STARTED_BY_RETRY, STARTED_BY_RETRY_NOT_LOW, STOPPED,
-    STOPPED_BY_LOAD, STOPPED_BY_LOW, WRONG_STATE, field_word, setting_word,
-};
+use crate::sentence::{Exit, Sentence};
+use crate::words::{cycle_word, setting_word, tick_word};
+use drive::call::Call;
 
-fn reason(kind: u8, number: u8, place: u8, two_sensors: bool) -> u8 {
+fn call_name(call: Call) -> &'static str {
+    match call {
+        Call::Load(_) => "load",
+        Call::Cycle(_) => "cycle",
+        Call::Tick(_) => "tick",
+    }
+}
+
+fn field_word(e: &Event, place: u8) -> &'static str {
+    match e.call {
+        Call::Cycle(_) => cycle_word(place, e.after.has_two_sensors()),
+        _ => tick_word(place),
+    }
+}
+
+fn reason(e: &Event, number: u8, place: u8) -> &'static str {
     match number {
-        1 => field_word(kind, place, two_sensors),
+        1 => field_word(e, place),
         2 => setting_word(place),
-        3 => NO_SETTINGS,
-        4 => WRONG_STATE,
-        _ => NO_NUMBER,
+        3 => "in IDLE there are no settings: load first",
+        4 => "outside IDLE and STOP: stop or clear first",
+        _ => "no number of document 01",
     }
 }
 
-// The rows of the refusals have the calls' numbers.
-pub(crate) fn refused(e: Event) -> Sentence {
-    if e.number == 0 {
-        return plain(NOTHING);
+pub(crate) fn refused(e: &Event) -> Option<Sentence> {
+    let answer = e.answer();
+    if answer.number == 0 {
+        return None;
     }
-    let word = reason(e.kind, e.number, e.place, e.two_sensors);
-    worded(e.kind, e.number as u64, e.place as u64, word)
+    Some(Sentence::Refused {
+        call: call_name(e.call),
+        number: answer.number,
+        place: answer.place,
+        reason: reason(e, answer.number, answer.place),
+    })
 }
 
-pub(crate) fn loaded(e: Event) -> Sentence {
-    if !e.seen.loaded {
-        return plain(NOTHING);
-    }
-    if !e.timed {
-        return plain(LOADED);
-    }
-    if e.limit == 1 {
-        return numbered(LOADED_WITH_RETRY, 1, 0);
-    }
-    numbered(LOADED_WITH_RETRIES, e.limit, 0)
+pub(crate) fn loaded(e: &Event) -> Option<Sentence> {
+    let seen = e.seen();
+    let limit = seen.limit as u64;
+    seen.loaded.then_some(Sentence::Loaded {
+        retries: e.after.retries_itself().then_some(limit),
+    })
 }
 
 // Three sensors are the rule, and said only where there were two before.
-pub(crate) fn loaded_sensors(e: Event) -> Sentence {
-    if !e.seen.loaded {
-        return plain(NOTHING);
+pub(crate) fn loaded_sensors(e: &Event) -> Option<Sentence> {
+    if !e.seen().loaded {
+        return None;
     }
-    if e.two_sensors {
-        return plain(LOADED_FOR_TWO_SENSORS);
+    if e.after.has_two_sensors() {
+        return Some(Sentence::LoadedForTwoSensors);
     }
-    if e.had_two_sensors {
-        return plain(LOADED_FOR_THREE_AGAIN);
-    }
-    plain(NOTHING)
+    e.before
+        .has_two_sensors()
+        .then_some(Sentence::LoadedForThreeAgain)
 }
 
-// The row of an exit, or the one behind it, which says that a live cause stood.
-fn exit_row(e: Event, row: u8) -> u8
-    requires { row ≤ 14 }
-{
-    if e.seen.cause_stood | e.seen.live_shown {
-        row + 1
+pub(crate) fn left(e: &Event) -> Option<Sentence> {
+    let seen = e.seen();
+    let retry = Exit::Retry {
+        nth: e.after.heard.onlooker.past.retries,
+        limit: seen.limit as u64,
+    };
+    let by = if seen.clear {
+        Exit::Clear
+    } else if seen.due {
+        retry
     } else {
-        row
-    }
-}
-
-// FAULT was left: the retry is counted as the rule counts.
-pub(crate) fn left(e: Event) -> Sentence {
-    if !e.seen.exited {
-        return plain(NOTHING);
-    }
-    if e.seen.clear {
-        return plain(exit_row(e, LEFT_BY_CLEAR));
-    }
-    if e.seen.due {
-        return numbered(exit_row(e, LEFT_BY_RETRY), e.retries, e.limit);
-    }
-    plain(exit_row(e, LEFT))
+        Exit::Neither
+    };
+    seen.exited.then_some(Sentence::Left {
+        by,
+        cause_stood: seen.cause_stood | seen.live_shown,
+    })
 }
 
 // By what a start was permitted: by a low or, failing that, by a timed retry. A low that was held in FAULT permits nothing.
-fn permission(e: Event) -> Sentence {
-    if !e.permitted {
-        return plain(STARTED);
+fn permission(e: &Event) -> Sentence {
+    let past = e.before.heard.onlooker.past;
+    let scene = e.before.heard.onlooker.scene;
+    match (past.low, past.retry) {
+        (Some(low), _) if past.loaded => Sentence::StartedByLow { low },
+        (None, Some(retry)) if past.loaded => Sentence::StartedByRetry {
+            retry,
+            low: scene.low.filter(|_| scene.trip < scene.low),
+        },
+        _ => Sentence::StartedUnpermitted,
     }
-    if e.low != 0 {
-        return numbered(STARTED_BY_LOW, e.low, 0);
-    }
-    if e.last_low <= e.last_trip {
-        return numbered(STARTED_BY_RETRY, e.retry, 0);
-    }
-    numbered(STARTED_BY_RETRY_NOT_LOW, e.retry, e.last_low)
 }
 
-pub(crate) fn start(e: Event) -> Sentence {
-    if e.seen.started {
-        return permission(e);
+pub(crate) fn start(e: &Event) -> Option<Sentence> {
+    let seen = e.seen();
+    if seen.started {
+        return Some(permission(e));
     }
-    if e.seen.began {
-        return plain(BEGAN);
-    }
-    plain(NOTHING)
+    seen.began.then_some(Sentence::Began)
 }
 
 // A starting or running state was left, and not for FAULT.
-fn stopped(e: Event) -> bool {
-    e.ran & !e.seen.running & (e.to != 5)
-}
-
-pub(crate) fn stop(e: Event) -> Sentence {
-    if !stopped(e) {
-        return plain(NOTHING);
-    }
-    if e.seen.low {
-        return plain(STOPPED_BY_LOW);
-    }
-    if e.seen.loaded {
-        return plain(STOPPED_BY_LOAD);
-    }
-    plain(STOPPED)
+pub(crate) fn stop(e: &Event) -> Option<Sentence> {
+    let seen = e.seen();
+    let by = if seen.low {
+        "low command"
+    } else if seen.loaded {
+        "load"
+    } else {
+        "without a low command"
+    };
+    (e.stops_running() & (e.answer().state != 5)).then_some(Sentence::Stopped { by })
 }

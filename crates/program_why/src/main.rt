@@ -4,39 +4,33 @@
 
 mod event;
 mod happened;
-mod hear;
 mod places;
-mod record;
 mod samples;
 mod sentence;
 mod shown;
+mod turn;
 mod words;
-mod writer;
 
-use event::{happened, plugged};
-use hear::{hear, silence};
-use onlooker::plug::Plug;
-use places::BEGUN;
-use record::{found_at, turn};
+use event::Story;
+use places::Places;
 use records::{INPUT_SIZE, OUTPUT_SIZE};
-use std::io::Input;
+use std::io::{Cursor, Input};
+use turn::turn;
 
-// A record or a read a turn. A proved loop has to end, and nothing says that the input does: the turns are counted down from a number
-// that no run uses up.
+// A record or a read a turn. A proved loop has to end, and nothing says that the input does: the turns are counted up to a number that no
+// run uses up.
 fn serve(rt: &(impl Input + Print + Eprint), input: &mut [u8], output: &mut [u8]) {
-    let mut turns = u64::MAX;
-    let mut heard = silence();
-    let mut plug = Plug::new();
-    let mut places = BEGUN;
-    while 0 < turns && !places.ended {
-        let found = found_at(input, places);
-        let after = hear(heard, found, input, places.taken);
-        let told = plugged(plug, after, found);
-        let e = happened(heard, after, found, places.closed, plug, told);
-        places = turn(rt, e, places, input, output);
-        heard = after;
-        plug = told;
-        turns -= 1;
+    let mut page = Cursor::new(output);
+    let mut story = Story::new();
+    let mut places = Places::default();
+    for _ in 0..u64::MAX {
+        match turn(rt, story, places, input, &mut page) {
+            Some((after, next)) => {
+                story = after;
+                places = next;
+            }
+            None => return,
+        }
     }
 }
 

@@ -1,89 +1,159 @@
-// A sentence as data, and its one writer.
-use crate::words::{COMMA, NO_WORD, NOTHING, bit_word, put_line, put_word};
-use text::put;
+// A sentence about a record, as data, and its words: those of the papers.
+use crate::words::{Bits, gate_word};
+use std::fmt;
 
-// The row that says it and the row's numbers; the word behind it, or the bits of a live word with what lit bit 15, and by which pattern.
+// How FAULT was left: the retry is counted as the rule counts.
 #[derive(Clone, Copy)]
-pub(crate) struct Sentence {
-    pub(crate) row: u8,
-    pub(crate) first: u64,
-    pub(crate) second: u64,
-    pub(crate) word: u8,
-    pub(crate) live: u16,
-    pub(crate) dead: bool,
-    pub(crate) pattern: u8,
+pub(crate) enum Exit {
+    Clear,
+    Retry { nth: u64, limit: u64 },
+    Neither,
 }
 
-pub(crate) fn plain(row: u8) -> Sentence {
-    worded(row, 0, 0, NO_WORD)
+#[derive(Clone, Copy)]
+pub(crate) enum Sentence {
+    Refused {
+        call: &'static str,
+        number: u8,
+        place: u8,
+        reason: &'static str,
+    },
+    NoRecord,
+    // How many timed retries are allowed; in mode 0 there are none.
+    Loaded {
+        retries: Option<u64>,
+    },
+    LoadedForTwoSensors,
+    LoadedForThreeAgain,
+    Left {
+        by: Exit,
+        cause_stood: bool,
+    },
+    Began,
+    StartedUnpermitted,
+    // The record of the low.
+    StartedByLow {
+        low: u64,
+    },
+    // The record of the retry, and that of the last low, if one was held before it.
+    StartedByRetry {
+        retry: u64,
+        low: Option<u64>,
+    },
+    Stopped {
+        by: &'static str,
+    },
+    Tripped {
+        bits: Bits,
+    },
+    TrippedByEarlier {
+        record: u64,
+        bits: Bits,
+    },
+    TrippedInTheDark,
+    Live {
+        bits: Bits,
+    },
+    Gates {
+        gate: u8,
+    },
+    DeadSample {
+        nth: u64,
+        pattern: u8,
+    },
+    StraySample {
+        nth: u64,
+        pattern: u8,
+    },
+    Samples {
+        dead: u64,
+        stray: u64,
+    },
 }
 
-pub(crate) fn numbered(row: u8, first: u64, second: u64) -> Sentence {
-    worded(row, first, second, NO_WORD)
-}
-
-pub(crate) fn worded(row: u8, first: u64, second: u64, word: u8) -> Sentence {
-    Sentence {
-        row,
-        first,
-        second,
-        word,
-        live: 0,
-        dead: false,
-        pattern: 0,
+impl fmt::Display for Exit {
+    fn fmt<W: fmt::Write>(&self, f: &mut fmt::Formatter<W>) -> fmt::Result {
+        match *self {
+            Exit::Clear => write!(f, "clear"),
+            Exit::Retry { nth, limit } => write!(f, "timed retry {nth} of {limit}"),
+            Exit::Neither => write!(f, "neither clear nor timed retry"),
+        }
     }
 }
 
-pub(crate) fn lit(row: u8, first: u64, live: u16, dead: bool, pattern: u8) -> Sentence {
-    Sentence {
-        row,
-        first,
-        second: 0,
-        word: NO_WORD,
-        live,
-        dead,
-        pattern,
+impl fmt::Display for Sentence {
+    fn fmt<W: fmt::Write>(&self, f: &mut fmt::Formatter<W>) -> fmt::Result {
+        match *self {
+            Sentence::Refused {
+                call,
+                number,
+                place,
+                reason,
+            } => write!(
+                f,
+                "{call} refused: number {number}, place {place}: {reason}"
+            ),
+            Sentence::NoRecord => write!(
+                f,
+                "refused: number 6, place 0: unknown or short record; the run ends"
+            ),
+            Sentence::Loaded { retries: None } => write!(f, "loaded: mode 0, no timed retries"),
+            Sentence::Loaded { retries: Some(1) } => write!(f, "loaded: mode 1, 1 retry allowed"),
+            Sentence::Loaded {
+                retries: Some(limit),
+            } => write!(f, "loaded: mode 1, {limit} retries allowed"),
+            Sentence::LoadedForTwoSensors => write!(f, "loaded: motor with two Hall sensors"),
+            Sentence::LoadedForThreeAgain => write!(
+                f,
+                "loaded: motor with three Hall sensors again"
+            ),
+            Sentence::Left {
+                by,
+                cause_stood: true,
+            } => write!(f, "FAULT left: {by}; a live cause stood"),
+            Sentence::Left {
+                by: Exit::Clear,
+                ..
+            } => write!(f, "FAULT left: clear"),
+            Sentence::Left { by, .. } => write!(f, "FAULT left: {by}; no live cause stood"),
+            Sentence::Began => write!(f, "a starting or running state entered without a start"),
+            Sentence::StartedUnpermitted => write!(f, "start: not permitted"),
+            Sentence::StartedByLow { low } => write!(
+                f,
+                "start: permitted by the low command at record {low}"
+            ),
+            Sentence::StartedByRetry { retry, low: None } => write!(
+                f,
+                "start: permitted by the timed retry at record {retry}; no low was held since the trip"
+            ),
+            Sentence::StartedByRetry {
+                retry,
+                low: Some(low),
+            } => write!(
+                f,
+                "start: permitted by the timed retry at record {retry}; the last low was held before it, at record {low}"
+            ),
+            Sentence::Stopped { by } => write!(f, "stop: {by}"),
+            Sentence::Tripped { bits } => write!(f, "trip:{bits}"),
+            Sentence::TrippedByEarlier { record, bits } => write!(
+                f,
+                "trip by record {record}:{bits}"
+            ),
+            Sentence::TrippedInTheDark => write!(f, "trip: no live bit is shown"),
+            Sentence::Live { bits } => write!(f, "live:{bits}"),
+            Sentence::Gates { gate } => write!(f, "gates: {}", gate_word(gate)),
+            Sentence::DeadSample { nth, pattern } => write!(
+                f,
+                "dead Hall sample {nth}: pattern {pattern}"
+            ),
+            Sentence::StraySample { nth, pattern } => write!(
+                f,
+                "stray Hall sample {nth}: pattern {pattern}"
+            ),
+            Sentence::Samples { dead, stray } => write!(
+                f,
+                "Hall samples since the load: {dead} dead, {stray} stray"
+            ),
+        }
     }
-}
-
-// The lowest bit of what is left of a live word, where it is set.
-fn put_lowest(
-    output: &mut [u8],
-    at: usize,
-    rest: u16,
-    number: u8,
-    dead: bool,
-    pattern: u8,
-) -> usize {
-    if rest % 2 == 0 {
-        return at;
-    }
-    let next = put_word(output, at, bit_word(number, dead), pattern);
-    if rest == 1 {
-        return next;
-    }
-    put_word(output, next, COMMA, 0)
-}
-
-// The bits of a live word, the lowest first.
-fn put_bits(output: &mut [u8], at: usize, live: u16, dead: bool, pattern: u8) -> usize {
-    let mut next = at;
-    let mut rest = live;
-    let mut number: u8 = 0;
-    while number < 16 {
-        next = put_lowest(output, next, rest, number, dead, pattern);
-        rest /= 2;
-        number += 1;
-    }
-    next
-}
-
-pub(crate) fn put_sentence(output: &mut [u8], at: usize, nth: u64, s: Sentence) -> usize {
-    if s.row == NOTHING {
-        return at;
-    }
-    let mut next = put_line(output, at, s.row, nth, s.first, s.second);
-    next = put_word(output, next, s.word, 0);
-    next = put_bits(output, next, s.live, s.dead, s.pattern);
-    put(output, next, b"\n")
 }

@@ -1,13 +1,15 @@
 -- Document 01, "Report line and program": what stands at the front of a list of bytes.
-use Rattle.std.specs.Prelude.{cond, ℕ, List, eqb, ltb, length}
+use Rattle.std.specs.Prelude.{cond, ℕ, List, eqb, ltb, length, Result, Ok, Err}
 use Prim.Native.Char.{code}
-use Rattle.settings.specs.Settings.{setting_count, all_settings}
+use Rattle.settings.specs.Settings.{setting_count, all_settings, meant}
 use Rattle.drive.specs.AnyCall.{Call, loads, cycles, ticks, block_loads}
 use Rattle.streams.specs.Run.{Front, end, unknown, short, whole}
 use Rattle.numbers.specs.Bytes.{byte}
 use Rattle.records.specs.Decoded.{load_size, settings_of, cycle_size, cycle_of, tick_size, tick_of}
-use Rattle.records.specs.declared.Found.{Found}
-use Rattle.records.specs.declared.Found.TheVariants.{End, Unknown, Short, Load, Cycle, Tick}
+use Rattle.drive.specs.declared.call.Call.TheVariants.{Load, Cycle, Tick}
+use Rattle.records.specs.declared.Record.{Record}
+use Rattle.streams.specs.declared.Missing.{Missing}
+use Rattle.streams.specs.declared.Missing.TheVariants.{End, Unknown, Short}
 
 -- a load of 25 numbers stands in a record M, any other in a record L
 abbrev pub size_of : Call → ℕ
@@ -32,15 +34,15 @@ begun letter left bytes =
 unfoldable pub front : List ℕ → Front Call
 front bytes = cond (eqb (length bytes) 0) end (begun (byte 0 bytes) (length bytes) bytes)
 
--- what the reader hands on: no enum of the code holds an array, so of a load it tells how many its numbers are
-abbrev pub found : Front Call → Found
-found end = End
-found unknown = Unknown
-found short = Short
-found (whole (loads numbers)) = Load (length numbers)
-found (whole (cycles fields)) = Cycle fields
-found (whole (ticks fields)) = Tick fields
-found (whole (block_loads image block)) = Unknown
+-- what the reader hands on: a whole record, a load with the 25 settings that it means; or why there is none
+abbrev pub found : Front Call → Result Record Missing
+found end = Err End
+found unknown = Err Unknown
+found short = Err Short
+found (whole (loads numbers)) = Ok (record { call = Load (meant numbers); size = size_of (loads numbers) })
+found (whole (cycles fields)) = Ok (record { call = Cycle fields; size = cycle_size })
+found (whole (ticks fields)) = Ok (record { call = Tick fields; size = tick_size })
+found (whole (block_loads image block)) = Err Unknown
 
 -- the shortest record and the longest
 abbrev pub shortest : ℕ

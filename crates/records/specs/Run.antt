@@ -1,14 +1,13 @@
 -- Document 01, "Report line and program": the program `shiftline`. What a run over bytes comes to, and that it does not depend on how they
 -- are cut, is said of any program of records (`streams`).
-use Rattle.std.specs.Prelude.{ℕ, ◌-◌, length}
+use Rattle.std.specs.Prelude.{ℕ, ◌-◌}
 use Rattle.drive.specs.Answer.{reply as shown}
 use Rattle.drive.specs.AnyCall.{Call, reply}
 use Rattle.drive.specs.declared.Drive.{Drive}
 use Rattle.report.specs.Refusals.{line_length}
 use Rattle.report.specs.Line.{line}
-use Rattle.streams.specs.Run.{Program, Outcome}
+use Rattle.streams.specs.Run.{Program}
 use Rattle.records.specs.Front.{size_of, longest, front}
-use Rattle.records.specs.declared.Ran.{Ran}
 
 -- "One line per record, after it; a line with number 6 shows the unchanged state and ends the run."
 abbrev pub shiftline : Program Drive Call
@@ -21,10 +20,6 @@ shiftline =
       refusal = λ (d : Drive). line (shown 6 0 d).answer;
       line_room = line_length;
     }
-
--- what the caller is handed of a run
-abbrev pub ran_of : Outcome Drive → Ran
-ran_of o = record { drive = o.state; taken = o.taken; written = length o.lines; ended = o.ended }
 
 -- the buffers of the program: so many bytes of records, and so many of lines
 abbrev pub input_size : ℕ

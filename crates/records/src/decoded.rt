@@ -1,10 +1,10 @@
 // The fields of a record, read off its bytes. Each function is lent bytes that begin with the record.
-ghost use Rattle.std.specs.Prelude.{◌≡◌, ◌+◌, ◌*◌, ◌<◌, ◌≤◌, true, length};
+ghost use Rattle.std.specs.Prelude.{◌≡◌, ◌≤◌, true, length};
 ghost use Rattle.settings.specs.Settings.{meant};
-ghost use Rattle.records.specs.Decoded.{signed_number, load_size, counts, settings_of, cycle_size, cycle_of, tick_size, tick_of};
+ghost use Rattle.records.specs.Decoded.{signed_number, counts, settings_of, cycle_size, cycle_of, tick_size, tick_of};
 
 use fields::{Cycle, Tick};
-use numbers::{number_at, signed};
+use numbers::{number_at, numbers_at, signed};
 use settings::{ALL_SETTINGS, USUAL_SENSORS};
 
 fn signed_number(bytes: &[u8], at: usize) -> i16
@@ -13,19 +13,13 @@ fn signed_number(bytes: &[u8], at: usize) -> i16
     signed(number_at(bytes, at))
 }
 
-// The settings that the numbers of a load mean.
+// The settings that the numbers of a load mean: what the one call comes to is promised here, in the paper's word.
+#[tactic(auto, using(crate::proofs::Sizes::settings_meant))]
 pub(crate) fn settings_of(bytes: &[u8], count: u8) -> [u16; ALL_SETTINGS]
-    requires { (counts count ≡ true) × (load_size count ≤ length bytes.now) }
+    requires { counts count ≡ true }
     ensures { result ≡ meant (settings_of count bytes.now) }
 {
-    let count = count as usize;
-    let mut settings = [USUAL_SENSORS; ALL_SETTINGS];
-    let mut i: usize = 0;
-    while i < count {
-        settings[i] = number_at(bytes, 1 + 2 * i);
-        i += 1;
-    }
-    settings
+    numbers_at(bytes, 1, count as usize, USUAL_SENSORS)
 }
 
 #[tactic(auto, unfolding(crate::specs::Decoded::cycle_of))]

@@ -2,7 +2,7 @@
 use Rattle.std.specs.Prelude.{ℕ, Bool, List, [], ◌∷◌, eqb, ltb}
 use Rattle.verdicts.specs.Table.{Row, row, verdict}
 use Rattle.drive.specs.declared.answer.Answer.{Answer}
-use Rattle.verdicts.specs.declared.Verdict.{Verdict}
+use Rattle.verdicts.specs.Table.{Verdict}
 
 -- "45 bytes", and by 02, M-105, "a space and one letter" more
 abbrev pub line_length : ℕ

@@ -1,6 +1,8 @@
 // Writers of one field each, with the byte that ends it: they put each of these bytes directly in its final place of a lent buffer, touch
 // no other byte, and tell the place behind them. A task with little stack calls them, so none collects bytes, and none reads a table:
 // Rattle builds an indexed constant array anew on the stack at each use. tools/stack tells what the call takes.
+// What they put and the place behind it stand in each contract: as one definition for all, the check no longer sees alone that the next
+// field fits.
 ghost use Rattle.std.specs.Prelude.{◌≡◌, [], ◌∷◌, ◌++◌, ◌+◌, ◌≤◌, ◌<◌, length};
 ghost use Rattle.std.proofs.lemmas.List.Edits.{sets};
 ghost use Rattle.report.specs.Text.{digit, digits, sign, signed};
@@ -31,10 +33,8 @@ pub(crate) fn put_digits(
     ensures lent { lent.new ≡ sets lent.old at (digits base width number ++ (end ∷ [])) }
 {
     let mut rest = number;
-    let mut left = width;
-    while 0 < left {
-        left -= 1;
-        lent[at + left] = digit(rest % base);
+    for i in (0..width).rev() {
+        lent[at + i] = digit(rest % base);
         rest /= base;
     }
     lent[at + width] = end;
@@ -63,13 +63,10 @@ fn put(lent: &mut [u8], at: usize, bytes: &[u8], end: u8) -> usize
     ensures next { result ≡ at + length bytes.now + 1 }
     ensures lent { lent.new ≡ sets lent.old at (bytes.now ++ (end ∷ [])) }
 {
-    let mut i = 0;
-    while i < bytes.len() {
-        lent[at + i] = bytes[i];
-        i += 1;
-    }
-    lent[at + i] = end;
-    at + i + 1
+    let behind = at + bytes.len();
+    lent[at..behind].copy_from_slice(bytes);
+    lent[behind] = end;
+    behind + 1
 }
 
 // The name of a state, padded with full stops to twelve.

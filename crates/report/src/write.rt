@@ -12,6 +12,8 @@ pub(crate) fn fields(answer: Answer, lent: &mut [u8])
     requires state_bound { answer.state ≤ 9 }
     ensures { lent.new ≡ line answer ++ drop line_length lent.old }
 {
+    // The letter first: one byte in a register until its place comes, and not the two that it is told by (tools/stack).
+    let letter = answer.letter();
     let at = put_digits(lent, 0, answer.number as u32, 16, 1, b' ');
     let at = put_name(lent, at, answer.state, b' ');
     let at = put_digits(lent, at, answer.gate as u32, 10, 1, b' ');
@@ -19,6 +21,5 @@ pub(crate) fn fields(answer: Answer, lent: &mut [u8])
     let at = put_signed(lent, at, answer.reference, b' ');
     let at = put_digits(lent, at, answer.position, 16, 8, b' ');
     let at = put_signed(lent, at, answer.angle, b' ');
-    let judged = answer.judged;
-    put_letter(lent, at, judged.letter(), b'\n');
+    put_letter(lent, at, letter, b'\n');
 }

@@ -1,47 +1,43 @@
-// The states of the drive.
+// The states of the drive, with the paper's numbers.
 #![tactic(auto)]
 
 ghost use Rattle.std.specs.Prelude.{◌≡◌};
 ghost use Rattle.states.specs.States.{number_of, turning};
 
-#[derive(Clone, Copy)]
+#[derive(Clone, Copy, PartialEq, Eq)]
 pub enum State {
-    Idle,
-    Stop,
-    OffsetCal,
-    BtsCharge,
-    MotorRun,
-    Fault,
-    CatchSpin,
-    Parking,
-    OpenLoop,
-    AngleSensing,
+    Idle = 0,
+    Stop = 1,
+    OffsetCal = 2,
+    BtsCharge = 3,
+    MotorRun = 4,
+    Fault = 5,
+    CatchSpin = 6,
+    Parking = 7,
+    OpenLoop = 8,
+    AngleSensing = 9,
 }
 
 impl State {
-    // The paper's number of the state.
+    // The paper's number.
     pub fn number(self) -> u8
         ensures { result ≡ number_of self }
     {
-        match self {
-            State::Idle => 0,
-            State::Stop => 1,
-            State::OffsetCal => 2,
-            State::BtsCharge => 3,
-            State::MotorRun => 4,
-            State::Fault => 5,
-            State::CatchSpin => 6,
-            State::Parking => 7,
-            State::OpenLoop => 8,
-            State::AngleSensing => 9,
-        }
+        self as u8
     }
 
     // One of the six starting and running states.
     pub fn is_turning(self) -> bool
         ensures { result ≡ turning self }
     {
-        let n = self.number();
-        (n == 3) | (n == 4) | (n == 6) | (n == 7) | (n == 8) | (n == 9)
+        matches!(
+            self,
+            State::BtsCharge
+                | State::MotorRun
+                | State::CatchSpin
+                | State::Parking
+                | State::OpenLoop
+                | State::AngleSensing
+        )
     }
 }

@@ -5,3 +5,5 @@ pub mod AnyFuel
 pub mod FirstRecord
 pub mod LoopOfRun
 pub mod Stream
+-- Of the promises themselves.
+pub mod OneReply

@@ -7,7 +7,8 @@ use Prim.Native.Nat.{ℕ, ◌+◌, ◌-◌, ◌≤◌}
 use native.Mathlib.Omega.{arith}
 use lib.ListN.{length, drop, length-append, length-drop, drop_of_length-le}
 use lib.Seq.{take_at, drop_at, drop-drop}
-use Rattle.streams.specs.Run.{Program, Outcome, onto, runs, run, output_after}
+use Rattle.streams.specs.Run.{Program, Outcome, onto, runs, run, output_after, ran_of}
+use Rattle.streams.specs.declared.Ran.{Ran}
 use Rattle.streams.specs.Stream.{Lawful}
 use Rattle.streams.proofs.Parts.{tail, part, back}
 use Rattle.streams.proofs.FirstRecord.{FirstRecord, first_record}
@@ -19,13 +20,6 @@ onto_none o = let none : 0 + o.taken ≡ o.taken = omega arith in rw none
 pub onto_onto : {S : Type 0} (front back : List ℕ) (m n : ℕ) (o : Outcome S)
     → onto front m (onto back n o) ≡ onto (front ++ back) (m + n) o
 onto_onto front back m n o = let sum : m + (n + o.taken) ≡ m + n + o.taken = omega arith in rw (append_assoc, sum)
-
--- what a run tells of its outcome: the state, how many bytes it took and wrote, and whether a refusal ended it
-pub record Told {S : Type 0} (o : Outcome S) (state : S) (taken written : ℕ) (ended : Bool) : Type 0 where
-  pub state_is : state ≡ o.state
-  pub taken_is : taken ≡ o.taken
-  pub written_is : written ≡ length o.lines
-  pub ended_is : ended ≡ o.ended
 
 module _ {S R : Type 0} (p : Program S R) (input : List ℕ) (closed : Bool) (lent : List ℕ) (first : S) where
   -- the run over everything
@@ -112,38 +106,34 @@ module _
               ∙ rw (less, drop-drop next.taken taken input);
         }
 
-    -- What a turn of the loop comes to, where the step tells these and leaves `left` in the part that it was lent.
-    pub record Stepped (new : S) (took wrote : ℕ) (ended : Bool) (left : List ℕ) : Type 0 where
-      pub filled_within : written + wrote ≤ length lent
-      pub taken_within : taken + took ≤ length input
-      pub length-kept : length (back written output left) ≡ length lent
-      pub again : (took ≡ 0 → ⊥) → Ongoing p input closed lent first (back written output left) (taken + took) (written + wrote) new
-      pub answer : took ≡ 0 → Told (everything p input closed lent first) new (taken + took) (written + wrote) ended
-      pub leaves : took ≡ 0 → back written output left ≡ output_after (everything p input closed lent first) lent
+    -- What a turn of the loop comes to, where the step tells `one` and leaves `left` in the part that it was lent.
+    abbrev after : Ran S → Ran S
+    after one = record one { taken = taken + one.taken; written = written + one.written }
+
+    pub record Stepped (one : Ran S) (left : List ℕ) : Type 0 where
+      pub filled_within : written + one.written ≤ length lent
+      pub taken_within : taken + one.taken ≤ length input
+      pub again : (one.taken ≡ 0 → ⊥)
+          → Ongoing p input closed lent first (back written output left) (taken + one.taken) (written + one.written) one.state
+      pub answer : one.taken ≡ 0 → after one ≡ ran_of (everything p input closed lent first)
+      pub leaves : one.taken ≡ 0 → back written output left ≡ output_after (everything p input closed lent first) lent
 
     abbrev next_in : List ℕ → Outcome S
-    next_in lent-part = runs p 1 closed (length lent-part) (drop taken input) state
+    next_in lent-part = runs p 1 closed (length lent-part) (part taken input) state
 
-    pub stepped : {new : S} {took wrote : ℕ} {ended : Bool} {left : List ℕ}
-        → Told (next_in (part written output)) new took wrote ended
+    pub stepped : {one : Ran S} {left : List ℕ}
+        → one ≡ ran_of (next_in (part written output))
         → left ≡ output_after (next_in (part written output)) (part written output)
-        → Stepped new took wrote ended left
-    stepped {new} {took} {wrote} {ended} {left} told left_is =
+        → Stepped one left
+    stepped {one} {left} told left_is =
         let sized = length-drop written lent in
-        let said : Told next new took wrote ended = rw (part_is, sized) at told in
-        let out = next_output {left = left} (left_is ∙ rw (part_is, sized)) in
-        record {
-          filled_within = rw said.written_is (omega (arith, its_first.fits, g.room));
-          taken_within = rw said.taken_is (omega (arith, its_first.within, length-drop taken input, g.within));
-          length-kept = rw (out, length-append, counted, length-drop) (omega (arith, its_first.fits, g.room));
-          again = λ some. rw (said.state_is, said.taken_is, said.written_is) (goes_on (rw said.taken_is at some) out);
-          answer = λ none.
-              rw (ends (rw said.taken_is at none))
-              (record {
-                state_is = said.state_is;
-                taken_is = rw said.taken_is;
-                written_is = rw (said.written_is, counted);
-                ended_is = said.ended_is;
-              });
-          leaves = λ none. out ∙ rw (ends (rw said.taken_is at none), counted);
-        }
+        let said : one ≡ ran_of next = rw (part_is, sized, tail input taken) at told in
+        let out = next_output {left = left} (left_is ∙ rw (part_is, sized, tail input taken)) in
+        rw said
+        (record {
+          filled_within = omega (arith, its_first.fits, g.room);
+          taken_within = omega (arith, its_first.within, length-drop taken input, g.within);
+          again = λ some. goes_on some out;
+          answer = λ none. rw (ends none, counted);
+          leaves = λ none. out ∙ rw (ends none, counted);
+        })

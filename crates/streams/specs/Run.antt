@@ -1,5 +1,6 @@
 -- A run over the records that have arrived, whatever the records are and whatever a program prints of them.
 use Rattle.std.specs.Prelude.{ℕ, zero, suc, ◌+◌, ◌-◌, Bool, true, false, cond, List, [], ◌++◌, ltb, length, drop}
+use Rattle.streams.specs.declared.Ran.{Ran}
 
 -- what stands at the front of the bytes: no byte; bytes that begin no record; a record whose last bytes are missing; a whole record
 pub data Front (R : Type 0) : Type 0 where
@@ -46,6 +47,10 @@ onto lines taken later =
 -- the lines, and after them what the lent bytes held
 abbrev pub output_after : {S : Type 0} → Outcome S → List ℕ → List ℕ
 output_after o lent = o.lines ++ drop (length o.lines) lent
+
+-- what the caller is handed of a run
+abbrev pub ran_of : {S : Type 0} → Outcome S → Ran S
+ran_of o = record { state = o.state; taken = o.taken; written = length o.lines; ended = o.ended }
 
 module _ {S R : Type 0} (p : Program S R) where
   -- the line of what is no record leaves the state as it is, and ends the run

@@ -2,8 +2,6 @@
 // independent model's: a fixed part of what tools/compare compares.
 #![tactic(auto)]
 
-ghost use Rattle.std.specs.Prelude.{◌≤◌, length, IfOk};
-
 use drive::Drive;
 use records::run;
 use report::LINE_LENGTH;
@@ -23,19 +21,11 @@ const INPUT_SIZE: usize = 32768;
 
 const OUTPUT_SIZE: usize = LINE_LENGTH * RECORDS;
 
-// Reads until the bytes are full or the input ends, and tells how many came.
-fn read_full(rt: &impl Input, bytes: &mut [u8]) -> io::Result<usize>
-    ensures { IfOk result (λ n. n ≤ length bytes.new) }
-{
-    let size = bytes.len();
-    let mut room = &mut bytes[..];
-    io::copy(&mut rt.reader().take(size as u64), &mut room)?;
-    Ok(size.saturating_sub(room.len()))
-}
-
 fn main(rt: HostRuntime) -> io::Result<()> {
     let mut input = [0u8; INPUT_SIZE];
     let mut output = [0u8; OUTPUT_SIZE];
-    let count = read_full(&rt, &mut input)?;
+    let mut room = &mut input[..];
+    io::copy(&mut rt.reader().take(INPUT_SIZE as u64), &mut room)?;
+    let count = INPUT_SIZE.saturating_sub(room.len());
     print_lines(&rt, &input[..count], &mut output)
 }

@@ -2,9 +2,8 @@
 // compares the lines. It prints the lines of the whole run, and how many splits there were and how many gave other lines.
 #![tactic(auto)]
 
-ghost use Rattle.std.specs.Prelude.{◌≤◌, length, IfOk};
+ghost use Rattle.std.specs.Prelude.{◌≤◌, length};
 
-use check::same;
 use drive::Drive;
 use records::{CYCLE_SIZE, run};
 use report::LINE_LENGTH;
@@ -18,21 +17,23 @@ fn in_parts(input: &[u8], split: usize, output: &mut [u8]) -> usize
     ensures { result ≤ length output.old }
 {
     let first = run(Drive::power_up(), &input[..split], false, output);
-    let taken = first.taken;
-    let written = first.written;
     if first.ended {
-        return written;
+        return first.written;
     }
-    let drive = first.drive;
-    let second = run(drive, &input[taken..], true, &mut output[written..]);
-    written + second.written
+    let second = run(
+        first.state,
+        &input[first.taken..],
+        true,
+        &mut output[first.written..],
+    );
+    first.written + second.written
 }
 
 fn differs(input: &[u8], split: usize, lines: &[u8], output: &mut [u8]) -> bool
     requires { split ≤ length input.now }
 {
     let written = in_parts(input, split, output);
-    !same(lines, &output[..written])
+    lines != &output[..written]
 }
 
 fn print_differing(
@@ -41,15 +42,14 @@ fn print_differing(
     lines: &[u8],
     output: &mut [u8],
 ) -> io::Result<()> {
-    let mut differing: u64 = 0;
-    let mut split: usize = 0;
-    while split <= input.len() {
+    let splits = input.len() + 1;
+    let mut differing: usize = 0;
+    for split in 0..splits {
         if differs(input, split, lines, output) {
             differing += 1;
         }
-        split += 1;
     }
-    println!(rt; "{split} splits, {differing} differ")
+    println!(rt; "{splits} splits, {differing} differ")
 }
 
 fn compare(rt: &impl Print, input: &[u8], whole: &mut [u8], parts: &mut [u8]) -> io::Result<()> {
@@ -70,21 +70,13 @@ const INPUT_SIZE: usize = 1024;
 // The lines of everything that the input can ask for: the shortest record is a cycle.
 const OUTPUT_SIZE: usize = LINE_LENGTH * (INPUT_SIZE / CYCLE_SIZE + 1);
 
-// Reads until the bytes are full or the input ends, and tells how many came.
-fn read_full(rt: &impl Input, bytes: &mut [u8]) -> io::Result<usize>
-    ensures { IfOk result (λ n. n ≤ length bytes.new) }
-{
-    let size = bytes.len();
-    let mut room = &mut bytes[..];
-    io::copy(&mut rt.reader().take(size as u64), &mut room)?;
-    Ok(size.saturating_sub(room.len()))
-}
-
 fn main(rt: HostRuntime) -> io::Result<()> {
     let mut input = [0u8; INPUT_SIZE];
     let mut whole = [0u8; OUTPUT_SIZE];
     let mut parts = [0u8; OUTPUT_SIZE];
-    let count = read_full(&rt, &mut input)?;
+    let mut room = &mut input[..];
+    io::copy(&mut rt.reader().take(INPUT_SIZE as u64), &mut room)?;
+    let count = INPUT_SIZE.saturating_sub(room.len());
     compare(&rt, &input[..count], &mut whole, &mut parts)?;
     if CUT < count {
         compare(&rt, &input[..count - UNKNOWN], &mut whole, &mut parts)?;

@@ -2,13 +2,13 @@
 use Prim.Native.Nat.{ℕ, ◌+◌, ◌-◌, ◌≤◌, ◌<◌, min}
 use native.Mathlib.Nat.{zero-add}
 use native.Mathlib.Omega.{arith}
-use mathlib.Core.Bool.{Bool, true, false}
-use mathlib.Core.Path.{◌≡◌, refl, sym, ap, ◌∙◌}
+use mathlib.Core.Path.{◌≡◌, sym, ap, ◌∙◌}
 use mathlib.Core.List.{List, [], ◌++◌, append_assoc, append-nil}
-use lib.Dec.{ltb}
 use lib.ListN.{length, take, drop, length-append, length-take, length-drop, drop_of_length-le, take-append-drop}
-use lib.Seq.{take_all, take-append-le, take-append-add, take_at, drop_at, drop-drop, length-take-le}
-use borrow.Author.Tests.{ltb-true, ltb-false}
+use lib.Seq.{take-append-le, take-append-add, take_at, drop_at, drop-drop, length-take-le}
+use Rattle.std.proofs.Common.{⊎_elim}
+use Rattle.std.proofs.lemmas.Bool.{cases_lt}
+use Rattle.std.proofs.lemmas.Grind.{common_steps}
 use Rattle.text.specs.Put.{behind, written}
 
 pub length-written : (at : ℕ) (bytes lent : List ℕ) → length (written at bytes lent) ≡ length lent
@@ -18,16 +18,13 @@ length-written at bytes lent = simp (length-take, length-append, length-drop) (o
 -- where the place lies behind the last byte nothing is written
 pub written_past : (at : ℕ) (bytes lent : List ℕ) → length lent ≤ at → written at bytes lent ≡ lent
 unfolding written
-written_past at bytes lent past =
-    rw (take_all at lent past, append_assoc) (take_at lent (bytes ++ drop (at + length bytes) lent) (length lent) refl)
+written_past at bytes lent past = grind (arith, common_steps)
 
 -- where all of it fits nothing is cut off
 pub written_whole : (at : ℕ) (bytes lent : List ℕ) → at + length bytes ≤ length lent
     → written at bytes lent ≡ take at lent ++ bytes ++ drop (at + length bytes) lent
 unfolding written
-written_whole at bytes lent fits =
-    take_all (length lent) (take at lent ++ bytes ++ drop (at + length bytes) lent)
-    (simp (length-append, length-take, length-drop) (omega arith))
+written_whole at bytes lent fits = grind (arith, common_steps)
 
 -- where it does not, the front of it
 pub written_cut : (at : ℕ) (bytes lent : List ℕ) → at ≤ length lent → length lent ≤ at + length bytes
@@ -38,6 +35,15 @@ written_cut at bytes lent inside cut =
     let size : length lent ≡ length (take at lent) + (length lent - at) = omega arith in
     rw (drop_of_length-le lent cut, append-nil)
     (ap (λ (n : ℕ). take n (take at lent ++ bytes)) size ∙ take-append-add (take at lent) bytes (length lent - at))
+
+-- what the code leaves: as many bytes as there is room for, from a place on that is no further than the end
+pub written_clipped :
+    (at : ℕ) (bytes lent : List ℕ) (a n : ℕ)
+    → a ≡ min at (length lent)
+    → n ≡ min (length bytes) (length lent - a)
+    → take a lent ++ (take n bytes ++ drop (a + n) lent) ≡ written at bytes lent
+written_clipped at bytes lent a n place count =
+    grind (arith, common_steps, written_past at bytes lent, written_whole at bytes lent, written_cut at bytes lent)
 
 -- from the first byte on
 pub written_front : (bytes lent : List ℕ) → length bytes ≤ length lent → written 0 bytes lent ≡ bytes ++ drop (length bytes) lent
@@ -54,21 +60,23 @@ unfolding behind
 behind_behind at a b lent = rw (length-written at a lent, length-append a b) (omega arith)
 
 module _ (at : ℕ) (a b lent : List ℕ) where
+  abbrev Joined : Type 0
+  Joined = written (behind at a lent) b (written at a lent) ≡ written at (a ++ b) lent
+
+  past : length lent < at → Joined
+  unfolding behind
+  past far = grind (arith, written_past, length-written)
+
   -- the first reaches the end: the second writes nothing
-  cut : (inside : at ≤ length lent) → length lent ≤ at + length a
-      → written (length lent) b (written at a lent) ≡ written at (a ++ b) lent
-  cut inside full =
-      let past : length (written at a lent) ≤ length lent = omega (arith, length-written at a lent) in
-      let longer : length lent ≤ at + length (a ++ b) = simp length-append (omega arith) in
-      let front : length lent - at ≤ length a = omega arith in
-      written_past (length lent) b (written at a lent) past
-      ∙ written_cut at a lent inside full
-      ∙ rw (written_cut at (a ++ b) lent inside longer, take-append-le (length lent - at) a b front)
+  cut : at ≤ length lent → length lent < at + length a → Joined
+  unfolding behind
+  cut inside full = grind (arith, written_past, written_cut, length-written, length-append {A = ℕ}, take-append-le {A = ℕ})
 
   -- all of the first fits
-  whole : at + length a ≤ length lent → written (at + length a) b (written at a lent) ≡ written at (a ++ b) lent
-  unfolding written
+  whole : at + length a ≤ length lent → Joined
+  unfolding written behind
   whole fits =
+      let place : min (at + length a) (length lent) ≡ at + length a = omega arith in
       let long : length (take at lent ++ a) ≡ at + length a =
       simp length-append (omega (arith, length-take-le at lent (omega arith))) in
       let rest = drop (at + length a) lent in
@@ -78,6 +86,7 @@ module _ (at : ℕ) (a b lent : List ℕ) where
       ∙ drop-drop (length b) (at + length a) lent in
       let places : at + length a + length b ≡ at + length (a ++ b) = simp length-append (omega arith) in
       rw (
+        place,
         length-written at a lent,
         written_whole at a lent fits,
         take_at (take at lent ++ a) rest (at + length a) long,
@@ -86,26 +95,12 @@ module _ (at : ℕ) (a b lent : List ℕ) where
         append_assoc (take at lent) a b,
       )
 
-  split : (test : Bool) → ltb (length lent) at ≡ test → (full : Bool) → ltb (length lent) (at + length a) ≡ full
-      → written (behind at a lent) b (written at a lent) ≡ written at (a ++ b) lent
-  unfolding behind
-  split true e full f =
-      let past : length lent ≤ at = omega (arith, ltb-true (length lent) at e) in
-      let place : min (at + length a) (length lent) ≡ length lent = omega arith in
-      rw (place, written_past at a lent past, written_past at (a ++ b) lent past)
-      (written_past (length lent) b lent (omega arith))
-  split false e true f =
-      let inside : at ≤ length lent = ltb-false (length lent) at e in
-      let more : length lent < at + length a = ltb-true (length lent) (at + length a) f in
-      let place : min (at + length a) (length lent) ≡ length lent = omega arith in
-      rw place (cut inside (omega arith))
-  split false e false f =
-      let fits : at + length a ≤ length lent = ltb-false (length lent) (at + length a) f in
-      let place : min (at + length a) (length lent) ≡ at + length a = omega arith in
-      rw place (whole fits)
-
   pub written_written : written (behind at a lent) b (written at a lent) ≡ written at (a ++ b) lent
-  written_written = split (ltb (length lent) at) refl (ltb (length lent) (at + length a)) refl
+  written_written =
+      ⊎_elim past (λ inside. ⊎_elim (cut inside) whole (cases_lt (length lent) (at + length a))) (cases_lt (length lent) at)
+
+-- for a chain of writers that is proved by the search: `#[tactic(auto, using(text::proofs::Chains::chained))]`
+pub ruleset chained = (behind_behind, written_written)
 
 -- what a writer promises of a text: the place behind it, and what stands in the lent bytes
 pub record Puts (at : ℕ) (bytes lent : List ℕ) (next : ℕ) (after : List ℕ) : Type 0 where

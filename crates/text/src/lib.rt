@@ -1,5 +1,6 @@
 // Texts written into lent bytes. Each writer puts what fits from a place on, touches no other byte, and tells the place behind it, so
-// that a sentence is a chain of calls.
+// that a sentence is a chain of calls. Bytes and place are no struct `Page { lent: &mut [u8], at: usize }`: that was tried, and each writer
+// then has to promise besides that the reference in it is the same one.
 #![tactic(auto)]
 
 ghost use Rattle.std.specs.Prelude.{◌≡◌, ◌-◌, min};
@@ -9,60 +10,34 @@ ghost use Rattle.text.specs.Decimal.{decimal, signed_decimal, column};
 // A number of 64 bits has twenty digits at most, and a column is no wider.
 const WIDEST: usize = 20;
 
-// How many of so many bytes fit from a place on.
-fn fitting(count: usize, room: usize) -> usize
-    ensures { result ≡ min count room }
-{
-    if count < room { count } else { room }
-}
-
 // Puts the bytes into the lent ones from a place on, as many as fit, and tells the place behind them.
 pub fn put(lent: &mut [u8], at: usize, bytes: &[u8]) -> usize
     ensures next { result ≡ behind at bytes.now lent.old }
     ensures lent { lent.new ≡ written at bytes.now lent.old }
 {
-    if lent.len() <= at {
-        return lent.len();
-    }
-    let count = fitting(bytes.len(), lent.len() - at);
-    let mut i = 0;
-    while i < count {
-        lent[at + i] = bytes[i];
-        i += 1;
-    }
+    let at = at.min(lent.len());
+    let count = bytes.len().min(lent.len() - at);
+    lent[at..at + count].copy_from_slice(&bytes[..count]);
     at + count
 }
 
 // Puts a number in decimal.
+#[tactic(auto, using(crate::proofs::Decimals::narrowest))]
 pub fn put_decimal(lent: &mut [u8], at: usize, number: u64) -> usize
     ensures next { result ≡ behind at (decimal number) lent.old }
     ensures lent { lent.new ≡ written at (decimal number) lent.old }
 {
-    let mut digits = [0u8; WIDEST];
-    let count = io::decimal(number, &mut digits);
-    put(lent, at, &digits[..count])
+    put_column(lent, at, number, 0)
 }
 
 // Puts a number in decimal, a negative one with a minus before it.
-#[tactic(auto, using(crate::proofs::Signed::chained_signs))]
+#[tactic(auto, using(crate::proofs::Chains::chained), unfolding(crate::specs::Decimal::signed_decimal))]
 pub fn put_signed(lent: &mut [u8], at: usize, number: i16) -> usize
     ensures next { result ≡ behind at (signed_decimal number) lent.old }
     ensures lent { lent.new ≡ written at (signed_decimal number) lent.old }
 {
-    let size = numbers::absolute(number) as u64;
-    if number < 0 {
-        let next = put(lent, at, b"-");
-        return put_decimal(lent, next, size);
-    }
-    put_decimal(lent, at, size)
-}
-
-// How many bytes of a column are left behind so many.
-fn left_behind(count: usize, width: usize) -> usize
-    ensures { result ≡ min width 20 - count }
-{
-    let width = fitting(width, WIDEST);
-    if width < count { 0 } else { width - count }
+    let at = if number < 0 { put(lent, at, b"-") } else { at };
+    put_decimal(lent, at, u64::from(number.unsigned_abs()))
 }
 
 // Puts a number in decimal at the left of a column: blanks behind it, up to a width of twenty at most.
@@ -70,10 +45,7 @@ pub fn put_column(lent: &mut [u8], at: usize, number: u64, width: usize) -> usiz
     ensures next { result ≡ behind at (column width number) lent.old }
     ensures lent { lent.new ≡ written at (column width number) lent.old }
 {
-    let mut front = [0u8; WIDEST];
-    let count = io::decimal(number, &mut front);
-    let next = put(lent, at, &front[..count]);
-    let left = left_behind(count, width);
-    let blanks = [b' '; WIDEST];
-    put(lent, next, &blanks[..left])
+    let mut page = [b' '; WIDEST];
+    let count = io::decimal(number, &mut page);
+    put(lent, at, &page[..count.max(width.min(WIDEST))])
 }

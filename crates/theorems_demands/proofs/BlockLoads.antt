@@ -9,7 +9,7 @@ use lib.Dec.{eqb}
 use borrow.Author.Tests.{ne_eqb, le-leb, lt-leb}
 use Rattle.numbers.proofs.Bytes.{Bytes}
 use Rattle.verdicts.specs.Table.{verdict}
-use Rattle.verdicts.specs.declared.Verdict.{Verdict}
+use Rattle.verdicts.specs.Table.{Verdict}
 use Rattle.states.specs.States.{is}
 use Rattle.settings.specs.Settings.{meant}
 use Rattle.images.specs.Image.{fifteen, empty, filled, Blocks, Allowed, body_of, image_of}

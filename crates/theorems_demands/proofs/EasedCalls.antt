@@ -1,5 +1,6 @@
 -- In MOTORRUN a call that is no accepted tick leaves two drives alike that were alike; and it is none for the one where it is none for the
 -- other.
+use Rattle.std.proofs.Common.{None}
 use mathlib.Core.Path.{◌≡◌, sym, subst, ap, ◌∙◌}
 use mathlib.Core.Bool.{Bool, true, false, not, ◌||◌, cond}
 use mathlib.Core.List.{List}
@@ -21,7 +22,6 @@ use Rattle.drive.specs.Ticks.{ticked}
 use Rattle.drive.specs.Ticks as TickCalls
 use Rattle.drive.specs.AnyCall.{Call, loads, cycles, ticks, block_loads, reply}
 use Rattle.drive.specs.declared.Drive.{Drive}
-use Rattle.drive.specs.declared.answer.Judged.TheVariants.{Nothing}
 use Rattle.drive.specs.declared.answer.Reply.{Reply}
 use Rattle.drive.proofs.Settles.{refusal}
 use Rattle.theorems_history.specs.Onlooker.{Asked, neither, heard, is_tick}
@@ -51,7 +51,7 @@ module _ (d : Drive) (running : T (is 4 d.state)) where
 -- a refused tick, anywhere
 tick_leaves : (d : Drive) (t : Tick) → ((reply d (ticks t)).answer.number ≡ 0 → ⊥) → (reply d (ticks t)).drive ≡ d
 unfolding TickCalls.tick
-tick_leaves d t given = ap (λ (a : Reply). a.drive) (refusal Nothing (verdict (tick_rows d t)) (ticked d t) d given)
+tick_leaves d t given = ap (λ (a : Reply). a.drive) (refusal None (verdict (tick_rows d t)) (ticked d t) d given)
 
 -- of a call that asks nothing of a tick he hears of none
 hears_none : (test : Bool) (about : Asked Tick) → T (not (is_tick words about)) → T (not (is_tick words (cond test about neither)))

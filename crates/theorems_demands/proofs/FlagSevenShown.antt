@@ -1,4 +1,5 @@
 -- Flag 7 stands in the live word of an answer just where the log of calls and answers says so, whichever call it is and in every state.
+use Rattle.std.proofs.Common.{Option, None}
 use mathlib.Core.Path.{◌≡◌, refl, sym, ap, subst, ◌∙◌}
 use mathlib.Core.Bool.{Bool, true, false, not, ◌&&◌, cond, or-false}
 use mathlib.Core.List.{List, [], ◌∷◌}
@@ -27,8 +28,7 @@ use Rattle.verdicts.proofs.Passed.{passed}
 use Rattle.drive.specs.Refusals.{tick_rows}
 use Rattle.drive.specs.Calls.{loaded, sample, judged_by, cycled}
 use Rattle.drive.specs.Blocks.{block_numbers, marked}
-use Rattle.drive.specs.declared.answer.Judged.{Judged}
-use Rattle.drive.specs.declared.answer.Judged.TheVariants.{Nothing}
+use Rattle.hall.specs.declared.fate.Fate.{Fate}
 use Rattle.drive.specs.declared.answer.Reply.{Reply}
 use Rattle.drive.proofs.EachCall.{each_call}
 use Rattle.drive.specs.Ticks.{watch, standing, raised, armed_by, nth, grounds, moved, ticked}
@@ -165,7 +165,7 @@ module _ (d : Drive) (r : Reached d) (past : Log) (knows : Remembers d (memory_o
   module _ (shown : bit 7 (live_word d) ≡ shows7 past) where
     -- a call of which he hears nothing, that leaves the state and adds no flag 7
     passes :
-        (judged : Judged) (call : Call) (after : Drive) (number at : ℕ)
+        (judged : Option Fate) (call : Call) (after : Drive) (number at : ℕ)
         → after.state ≡ d.state
         → heard words (made call (answer_telling judged number at after)) ≡ neither
         → bit 7 (live_word after) ≡ bit 7 (live_word d)
@@ -181,7 +181,7 @@ module _ (d : Drive) (r : Reached d) (past : Log) (knows : Remembers d (memory_o
         (call : Call) (number at : ℕ)
         → eqb number 0 ≡ false
         → bit 7 (live_word d) ≡ shows7 (made call (answer number at d) ∷ past)
-    refused call number at given = passes Nothing call d number at refl (unheard_refusal call number at d given) refl
+    refused call number at given = passes None call d number at refl (unheard_refusal call number at d given) refl
 
     -- a refused block load may set flag 12
     refused_marked :
@@ -189,7 +189,7 @@ module _ (d : Drive) (r : Reached d) (past : Log) (knows : Remembers d (memory_o
         → eqb number 0 ≡ false
         → bit 7 (live_word (marked d)) ≡ shows7 (made call (answer number at (marked d)) ∷ past)
     refused_marked call number at given =
-        passes Nothing call (marked d) number at refl (unheard_refusal call number at (marked d) given)
+        passes None call (marked d) number at refl (unheard_refusal call number at (marked d) given)
         (seven.no_7 d.settings d.flags (flag 12 true) refl)
 
     -- and a cycle flag 15

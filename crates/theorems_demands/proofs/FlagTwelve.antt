@@ -1,4 +1,5 @@
 -- Flag 12 stands in the live word of an answer just where the log of calls and answers says so.
+use Rattle.std.proofs.Common.{None}
 use Prim.Native.Nat.{ℕ, ◌*◌}
 use native.Mathlib.Nat.{zero-add}
 use native.Mathlib.Omega.{arith}
@@ -34,7 +35,6 @@ use Rattle.drive.specs.Ticks as TickCalls
 use Rattle.drive.specs.AnyCall.{Call, loads, cycles, ticks, block_loads, reply}
 use Rattle.drive.specs.declared.Drive.{Drive}
 use Rattle.drive.specs.declared.answer.Answer.{Answer}
-use Rattle.drive.specs.declared.answer.Judged.TheVariants.{Nothing}
 use Rattle.drive.specs.declared.answer.Reply.{Reply}
 use Rattle.drive.proofs.EachCall.{marks, each_call}
 use Rattle.drive.proofs.Settles.{tick_keeps_settings}
@@ -241,7 +241,7 @@ pub idle_shows :
       angle = pos 0;
       offsets = record { first = 0; second = 0 };
       retries = 0;
-      judged = Nothing;
+      judged = None;
     }
 unfolding answer_telling
 idle_shows calls number place asleep =
@@ -262,6 +262,6 @@ idle_shows calls number place asleep =
       angle = pos 0;
       offsets = record { first = 0; second = 0 };
       retries = 0;
-      judged = Nothing;
+      judged = None;
     })
     refl refl idle)

@@ -8,13 +8,13 @@ use lib.Dec.{leb, lit≤}
 use lib.IntN.{negsuc}
 use lib.ListN.{length, replicate, length-append, length-replicate}
 use borrow.Author.Tests.{lt-leb}
+use Rattle.std.specs.Prelude.{Some}
 use Rattle.theorems_history.specs.Log.{state_after, entry, log}
 use Rattle.theorems_history.specs.Onlooker.{Memory, memory_of, remember, note, notes}
 use Rattle.theorems_history.specs.History.{Seen}
 use Rattle.theorems_history.specs.Page.{Mark, load, low, cause, retry, start, turns, stands, page, turning}
 use Rattle.numbers.specs.Count.{up}
 use Rattle.drive.specs.AnyCall.{reply}
-use Rattle.hall.specs.declared.fate.Kept.TheVariants.{Pattern}
 use Rattle.states.specs.declared.State.TheVariants.{Stop, Fault}
 use Rattle.motor.specs.Counts.{at_rest}
 use Rattle.drive.specs.Offsets.{zero as zeroes}
@@ -37,7 +37,7 @@ turns_by_command = refl
 abbrev faulted : ℕ → Drive
 faulted n =
     becomes (state_after machine tripped) Fault
-    (record { kept = Pattern 1; position = 0; angle = negsuc 5461; dead_streak = 0; stray_streak = 0; still_count = 66 })
+    (record { kept = Some 1; position = 0; angle = negsuc 5461; dead_streak = 0; stray_streak = 0; still_count = 66 })
     4 0 n
     (record { measured = true; value = zeroes; sum = zeroes })
     at_rest false 0

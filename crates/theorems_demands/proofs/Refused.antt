@@ -1,6 +1,7 @@
 -- Demand 1: "Bad input is refused with the number and place in document 01; the drive state and any lent bytes then stand as before."
 -- Amended by 02, M-102: "A body that it finds and load's own rules refuse in IDLE also sets flag 12".
 -- A caller sees the refusal by the number that it is told, so each theorem starts from that.
+use Rattle.std.proofs.Common.{None}
 use mathlib.Core.Path.{◌≡◌, refl, sym, ap, ◌∙◌}
 use mathlib.Core.Bool.{Bool, true, false, ◌&&◌, not, cond}
 use mathlib.Core.List.{List, [], ◌∷◌}
@@ -30,15 +31,14 @@ use Rattle.drive.specs.Ticks
 use Rattle.drive.specs.AnyCall.{Call, loads, cycles, ticks, block_loads, reply}
 use Rattle.drive.specs.declared.Drive.{Drive}
 use Rattle.drive.specs.declared.answer.Answer.{Answer}
-use Rattle.drive.specs.declared.answer.Judged.TheVariants.{Nothing}
 use Rattle.drive.specs.declared.answer.Reply.{Reply}
 use Rattle.report.specs.Refusals.{line_length, line_verdict, accepts}
 use Rattle.report.specs.Line.{line, lent_after}
 use Rattle.report.proofs.Fields.{length-line}
 use Rattle.streams.specs.Run.{Front, end, unknown, short, whole}
 use Rattle.records.specs.Front.{front}
-use Rattle.streams.specs.Run.{Outcome, rest, refused, follow, runs, output_after}
-use Rattle.records.specs.Run.{shiftline, ran_of}
+use Rattle.streams.specs.Run.{Outcome, rest, refused, follow, runs, output_after, ran_of}
+use Rattle.records.specs.Run.{shiftline}
 use Rattle.drive.proofs.Settles.{refusal}
 use Rattle.theorems_demands.specs.Amended.{rows, amended, is_block_load}
 
@@ -49,11 +49,11 @@ pub refused_unchanged :
     → ((reply d call).answer.number ≡ 0 → ⊥)
     → reply d call ≡ shown (verdict (rows d call)).number (verdict (rows d call)).place (cond (amended d call) (marked d) d)
 unfolding Calls.load Calls.cycle Ticks.tick Blocks.block_load
-refused_unchanged d (loads numbers) given = refusal Nothing (verdict (load_rows d numbers)) _ d given
+refused_unchanged d (loads numbers) given = refusal None (verdict (load_rows d numbers)) _ d given
 refused_unchanged d (cycles fields) given = refusal (Calls.judged_by d fields) (verdict (cycle_rows d fields)) _ d given
-refused_unchanged d (ticks fields) given = refusal Nothing (verdict (tick_rows d fields)) _ d given
+refused_unchanged d (ticks fields) given = refusal None (verdict (tick_rows d fields)) _ d given
 refused_unchanged d (block_loads image block) given =
-    refusal Nothing (verdict (block_rows d image block)) _ (left_by_block d image block) given
+    refusal None (verdict (block_rows d image block)) _ (left_by_block d image block) given
 
 -- and a caller sees by the number where that is: it is a block load in IDLE that is answered with 2
 not_2 : (a b c : Bool) → (verdict (row 7 0 a ∷ row 8 0 b ∷ row 9 0 c ∷ [])).number ≡ 2 → ⊥

@@ -1,4 +1,5 @@
 -- A whole row of held ticks, from MOTORRUN on, with whatever calls between them: none of these ends it before flag 7 does.
+use Rattle.std.proofs.Common.{None}
 use mathlib.Core.Path.{◌≡◌, refl, sym, ap, ◌∙◌}
 use mathlib.Core.Bool.{Bool, true, false, not, ◌&&◌, cond}
 use mathlib.Core.List.{List, [], ◌∷◌, ◌++◌}
@@ -23,7 +24,6 @@ use Rattle.drive.specs.Blocks.{marked}
 use Rattle.drive.specs.Ticks.{ticked}
 use Rattle.drive.specs.AnyCall.{Call, loads, cycles, ticks, block_loads, reply}
 use Rattle.drive.specs.declared.Drive.{Drive}
-use Rattle.drive.specs.declared.answer.Judged.TheVariants.{Nothing}
 use Rattle.drive.specs.declared.answer.Reply.{Reply}
 use Rattle.drive.proofs.EachCall.{each_call}
 use Rattle.theorems_history.specs.Log.{state_after, log}
@@ -194,7 +194,7 @@ module _ (earlier : List Call) (runs : T (in_motor_run (log machine earlier))) w
           let unset : (seven.lock d (slack t) && bit 7 (FaultEnable d.settings)) ≡ false = rw (seven.unlocked d t loaded) in
           ap (λ (r : Reply). r.answer) (accepted d (slack t) slack_unrefused)
           ∙ shown_alike (ticked d (slack t)) (ticked other (slack t))
-          (ticked_alike d other going.alike (slack t) loaded unset) Nothing 0 0
+          (ticked_alike d other going.alike (slack t) loaded unset) None 0 0
           ∙ sym (ap (λ (r : Reply). r.answer) other_replies)
 
       stalling : T (stalls (numbers_of (log machine past)) t)

@@ -10,7 +10,7 @@ use lib.ListN.{take, drop}
 use mir.Facts.{ltb_yes}
 use Rattle.fields.specs.declared.Tick.{Tick}
 use Rattle.verdicts.specs.Table.{Row, row, verdict}
-use Rattle.verdicts.specs.declared.Verdict.{Verdict}
+use Rattle.verdicts.specs.Table.{Verdict}
 use Rattle.verdicts.proofs.Passed.{Passed, passed, none_holds}
 use Rattle.drive.specs.Answer.{answer_telling, reply as replied}
 use Rattle.drive.specs.Refusals.{tick_rows}

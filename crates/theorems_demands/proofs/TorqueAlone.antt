@@ -1,5 +1,6 @@
 -- Torque is read by bit 7 alone: two drives that are alike reply alike to a call with torque and to the same call without, unless flag 7 is
 -- set by it.
+use Rattle.std.proofs.Common.{Option}
 use mathlib.Core.Path.{◌≡◌, refl, sym, ap, ◌∙◌}
 use mathlib.Core.Bool.{Bool, true, false, ◌&&◌, ◌||◌, and-or_distrib_right}
 use Prim.Native.Nat.{ℕ}
@@ -18,7 +19,7 @@ use Rattle.drive.specs.Flags.{always_live, alive}
 use Rattle.drive.specs.Answer.{answer_telling}
 use Rattle.drive.specs.Ticks.{watch, standing, raised, armed_by, nth, grounds, chosen, moved, ticked}
 use Rattle.drive.specs.declared.Drive.{Drive}
-use Rattle.drive.specs.declared.answer.Judged.{Judged}
+use Rattle.hall.specs.declared.fate.Fate.{Fate}
 use Rattle.theorems_reached.specs.Reached.{Loaded}
 use Rattle.theorems_demands.specs.Stalled.{slack}
 use Rattle.theorems_demands.proofs.FlagSeven as seven
@@ -40,7 +41,7 @@ module _ (d other : Drive) (a : Alike d other) where
       (live_flag always_live (FaultEnable d.settings) 7 a.set ∙ ap (flag 7) none)
       ∙ or_zero_r (alive d.settings (a.flags or more))
 
-  pub shown_alike : (judged : Judged) (number place : ℕ)
+  pub shown_alike : (judged : Option Fate) (number place : ℕ)
       → answer_telling judged number place d ≡ answer_telling judged number place other
   unfolding answer_telling
   shown_alike judged number place =

@@ -1,4 +1,5 @@
 -- Torque is read by bit 7 alone: whatever is called, with torque in the ticks or without, each answer is the same until flag 7 is set.
+use Rattle.std.proofs.Common.{Option, None}
 use mathlib.Core.Path.{◌≡◌, refl, sym, ap, ◌∙◌}
 use mathlib.Core.Bool.{Bool, true, false, not, ◌&&◌, cond}
 use mathlib.Core.List.{List, [], ◌∷◌, ◌++◌}
@@ -14,7 +15,7 @@ use Rattle.states.specs.States.{is}
 use Rattle.settings.specs.Settings.{meant, FaultEnable}
 use Rattle.fields.specs.declared.Tick.{Tick}
 use Rattle.verdicts.specs.Table.{verdict}
-use Rattle.verdicts.specs.declared.Verdict.{Verdict}
+use Rattle.verdicts.specs.Table.{Verdict}
 use Rattle.verdicts.proofs.Passed.{passed}
 use Rattle.images.specs.Image.{fifteen}
 use Rattle.images.specs.Reads.{is_read}
@@ -28,8 +29,7 @@ use Rattle.drive.specs.Ticks.{ticked}
 use Rattle.drive.specs.Ticks as TickCalls
 use Rattle.drive.specs.AnyCall.{Call, loads, cycles, ticks, block_loads, reply}
 use Rattle.drive.specs.declared.Drive.{Drive}
-use Rattle.drive.specs.declared.answer.Judged.{Judged}
-use Rattle.drive.specs.declared.answer.Judged.TheVariants.{Nothing}
+use Rattle.hall.specs.declared.fate.Fate.{Fate}
 use Rattle.drive.specs.declared.answer.Reply.{Reply}
 use Rattle.theorems_history.specs.Log.{state_after, entry, log}
 use Rattle.theorems_reached.specs.Machine.{machine}
@@ -51,7 +51,7 @@ pub record Same (r other : Reply) : Type 0 where
   pub answers : r.answer ≡ other.answer
 
 settle_same :
-    (judged : Judged) (v : Verdict) (next left next' left' : Drive)
+    (judged : Option Fate) (v : Verdict) (next left next' left' : Drive)
     → (v.number ≡ 0 → Alike next next')
     → Alike left left'
     → Same (settle_telling judged v next left) (settle_telling judged v next' left')
@@ -62,7 +62,7 @@ settle_same judged v next left next' left' goes stays = go (eqb v.number 0) refl
         (cond test (reply_telling judged 0 0 next') (replied v.number v.place left'))
     go true e =
         let alike = goes (eqb_yes (rw e tt)) in record { leaves = alike; answers = shown_alike next next' alike judged 0 0 }
-    go false e = record { leaves = stays; answers = shown_alike left left' stays Nothing v.number v.place }
+    go false e = record { leaves = stays; answers = shown_alike left left' stays None v.number v.place }
 
 module _ (d other : Drive) (a : Alike d other) where
   left_alike : (image : List ℕ) (block : ℕ) → Alike (left_by_block d image block) (left_by_block other image block)
@@ -101,18 +101,18 @@ module _ (d other : Drive) (a : Alike d other) where
   unfolding Calls.load Calls.cycle TickCalls.tick Blocks.block_load
   replies_same (loads numbers) may unset =
       rw (ap (λ (drive : Drive). verdict (load_rows drive numbers)) a.same)
-      (settle_same Nothing (verdict (load_rows d numbers)) _ d _ other (λ none. itself (loaded (meant numbers))) a)
+      (settle_same None (verdict (load_rows d numbers)) _ d _ other (λ none. itself (loaded (meant numbers))) a)
   replies_same (cycles c) may unset =
       rw (ap (λ (drive : Drive). verdict (cycle_rows drive c)) a.same, ap (λ (drive : Drive). judged_by drive c) a.same)
       (settle_same (judged_by d c) (verdict (cycle_rows d c)) (cycled d c) d (cycled other c) other (λ none. cycled_alike d other a c) a)
   replies_same (ticks t) may unset =
       rw (tick_rows_lem t may)
-      (settle_same Nothing (verdict (tick_rows d t)) (ticked d t) d (ticked other (slack t)) other
+      (settle_same None (verdict (tick_rows d t)) (ticked d t) d (ticked other (slack t)) other
       (λ none. let (loaded, dark) = unset none in ticked_alike d other a t loaded dark)
       a)
   replies_same (block_loads image block) may unset =
       rw (ap (λ (drive : Drive). verdict (block_rows drive image block)) a.same)
-      (settle_same Nothing (verdict (block_rows d image block)) _ (left_by_block d image block) _ (left_by_block other image block)
+      (settle_same None (verdict (block_rows d image block)) _ (left_by_block d image block) _ (left_by_block other image block)
       (λ none. itself (loaded (meant (block_numbers image block))))
       (left_alike image block))
 

@@ -5,7 +5,7 @@
 -- one that the last answer showed, as the onlooker of demand 3 remembers them. Two things stand in no log: flag 7 where it is masked, which
 -- no answer shows and which is read off the drive's state; and what the drive would answer without torque, by which "no low and no other
 -- cause" is told.
-use Rattle.std.specs.Prelude.{ℕ, suc, ◌+◌, ◌*◌, ◌^◌, ◌≤◌, Bool, true, false, not, ◌&&◌, ◌||◌}
+use Rattle.std.specs.Prelude.{ℕ, suc, ◌+◌, ◌*◌, ◌^◌, ◌≤◌, Bool, true, false, not, ◌&&◌, ◌||◌, None}
 use Rattle.std.specs.Prelude.{cond, ◌≡◌, List, [], ◌∷◌, ◌++◌, map, T, eqb, leb, ℤ, pos, nat_abs}
 use Rattle.faults.specs.Word.{bit}
 use Rattle.fields.specs.declared.Tick.{Tick}
@@ -13,7 +13,6 @@ use Rattle.theorems_history.specs.Log.{Entry, state_after, entry, log}
 use Rattle.theorems_history.specs.Onlooker.{Asked, load, tick, neither, heard, is_load, is_tick, memory_of}
 use Rattle.drive.specs.AnyCall.{Call, loads, cycles, ticks, block_loads}
 use Rattle.drive.specs.declared.answer.Answer.{Answer}
-use Rattle.drive.specs.declared.answer.Judged.TheVariants.{Nothing}
 use Rattle.theorems_reached.specs.Machine.{machine}
 use Rattle.onlooker.specs.Words.{words, setting, enabled, low_of}
 
@@ -112,7 +111,7 @@ tripped_by7 a =
       angle = a.angle;
       offsets = a.offsets;
       retries = a.retries;
-      judged = Nothing;
+      judged = None;
     }
 
 module _ (earlier : List Call) (t : Tick) where

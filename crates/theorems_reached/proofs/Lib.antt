@@ -8,3 +8,4 @@ pub mod Ticks
 pub mod Keeps
 pub mod Corollaries
 pub mod Turns
+pub mod Meant

@@ -1,6 +1,6 @@
 -- An accepted load was made in IDLE or STOP, and its settings keep their rules: each lies in its range, and stands to others as it must.
 use mathlib.Core.Path.{◌≡◌}
-use mathlib.Core.Bool.{Bool, true, ◌&&◌, ◌||◌}
+use mathlib.Core.Bool.{true, ◌&&◌, ◌||◌}
 use mathlib.Core.List.{List, [], ◌∷◌, map}
 use Prim.Native.Nat.{ℕ, zero, suc, ◌+◌, ◌≤◌, ◌<◌}
 use native.Mathlib.Omega.{arith}
@@ -8,7 +8,6 @@ use native.Mathlib.Nat.{le_of_suc-le-suc, not-suc-le-zero}
 use lib.Dec.{T, eqb, leb, leb→le}
 use lib.Ieee.Bits.{is_true}
 use lib.ListN.{length, get_or, take, length-take}
-use mir.Facts.{T_not-not, and_yes}
 use Rattle.verdicts.specs.Table.{verdict}
 use Rattle.verdicts.proofs.Passed.{Passed, passed}
 use Rattle.numbers.proofs.Fill.{first_at}
@@ -28,7 +27,7 @@ rule_at :
     → k < length places
     → T (rule s (get_or places k 0))
 rule_at s [] p k h = absurd (not-suc-le-zero h)
-rule_at s (i ∷ places) p zero h = T_not-not (rule s i) p.0
+rule_at s (i ∷ places) p zero h = grind arith
 rule_at s (i ∷ places) p (suc k) h = rule_at s places p.1 k (le_of_suc-le-suc h)
 
 -- an accepted load was made in IDLE or STOP, and its settings keep their rules
@@ -37,7 +36,7 @@ pub accepted_state :
     → (verdict (load_rows d numbers)).number ≡ 0
     → T (is 0 d.state || is 1 d.state)
 unfolding setting_rows
-accepted_state d numbers e = T_not-not (is 0 d.state || is 1 d.state) (passed (load_rows d numbers) tt e).0
+accepted_state d numbers e = grind arith
 
 -- a rule asks the 24 settings that the drive keeps as it asked the numbers of the load
 rule_kept : (s : List ℕ) → length s ≡ all_settings → (i : ℕ) → i < setting_count → rule (take setting_count s) i ≡ rule s i
@@ -58,9 +57,7 @@ rule_kept s all i h =
 pub accepted_count : (d : Drive) (numbers : List ℕ) → (verdict (load_rows d numbers)).number ≡ 0
     → (eqb (length numbers) setting_count || eqb (length numbers) all_settings) ≡ true
 unfolding setting_rows
-accepted_count d numbers e =
-    let either : Bool = eqb (length numbers) setting_count || eqb (length numbers) all_settings in
-    is_true either (T_not-not either (passed (load_rows d numbers) tt e).1.0)
+accepted_count d numbers e = grind (arith, is_true)
 
 pub accepted_settings : (d : Drive) (numbers : List ℕ) → (verdict (load_rows d numbers)).number ≡ 0
     → Loaded (take setting_count (meant numbers))
@@ -83,26 +80,15 @@ unfolding setting_rows
 accepted_sensors d numbers e =
     let n : ℕ = HallSensors (meant numbers) in
     let kept : T (leb 2 n && leb n 3 && true) = rule_at (meant numbers) indices (passed (load_rows d numbers) tt e).1.1 24 (omega arith) in
-    let (both, _) = and_yes (leb 2 n && leb n 3) true kept in
-    let (least, most) = and_yes (leb 2 n) (leb n 3) both in
-    (leb→le 2 n least, leb→le n 3 most)
+    grind (arith, leb→le)
 
 -- an accepted setting lies in the range of its place, and in the relation that its place asks for
 module _ {s : List ℕ} (loaded : Loaded s) (i : ℕ) (h : i < setting_count) where
-  abbrev low : Bool
-  low = leb (get_or lowest i 0) (get_or s i 0)
-
-  abbrev high : Bool
-  high = leb (get_or s i 0) (get_or highest i 0)
-
-  parts : T (low && high) × T (related s (i + 1))
-  parts = and_yes (low && high) (related s (i + 1)) (loaded.rules i h)
-
   pub at_least : get_or lowest i 0 ≤ get_or s i 0
-  at_least = leb→le _ _ (and_yes low high parts.0).0
+  at_least = grind (arith, loaded.rules i h, leb→le)
 
   pub at_most : get_or s i 0 ≤ get_or highest i 0
-  at_most = leb→le _ _ (and_yes low high parts.0).1
+  at_most = grind (arith, loaded.rules i h, leb→le)
 
   pub related_there : T (related s (i + 1))
-  related_there = parts.1
+  related_there = grind (arith, loaded.rules i h)

@@ -1,16 +1,16 @@
 -- A tick keeps what holds of reached states, whichever way its move comes about.
-use mathlib.Core.Path.{◌≡◌, refl, sym, subst}
+use mathlib.Core.Path.{◌≡◌, refl, subst}
 use mathlib.Core.Bool.{Bool, false, ◌&&◌, ◌||◌, not}
 use mathlib.Core.List.{List}
 use Prim.Native.Nat.{ℕ, ◌≤◌}
 use native.Mathlib.Omega.{arith}
 use lib.Dec.{T, eqb}
 use lib.IntN.{nat_abs}
-use mir.Facts.{T_not, not_T, and_yes, yes_eqb}
-use Rattle.numbers.proofs.Tests.{by_test, or_left, or_cases}
+use mir.Facts.{T_not, and_yes, yes_eqb}
+use Rattle.numbers.proofs.Tests.{or_left}
 use Rattle.states.specs.States.{is, turning}
 use Rattle.states.specs.declared.State.{State}
-use Rattle.states.specs.declared.State.TheVariants.{Stop, OffsetCal, BtsCharge, Fault}
+use Rattle.states.specs.declared.State.TheVariants.{Stop, BtsCharge}
 use Rattle.states.proofs.Groups.{turns, waiting}
 use Rattle.settings.specs.Settings.{FaultEnable, OffsetPsc, RetryLimit, samples}
 use Rattle.fields.specs.declared.Tick.{Tick}
@@ -87,19 +87,7 @@ module _ (d : Drive) (r : Reached d) (t : Tick) (outside : T (not (is 0 d.state)
       → (T armed → T (is 1 s || is 2 s))
       → retries ≤ RetryLimit d.settings
       → Reached (arrive d s flags offsets run armed retries)
-  arrived s awake flags offsets run armed few =
-      record {
-        idle = λ u. absurd (T_not (is 0 s) u awake);
-        settings = λ u. r.settings outside;
-        hall = r.hall;
-        cycles = omega arith;
-        ticks = omega arith;
-        retries = few;
-        run = run;
-        offsets = offsets;
-        armed = armed;
-        flags = flags;
-      }
+  arrived s awake flags offsets run armed few = grind arith
 
   -- the offsets of any state but OFFSETCAL
   offsets_in :
@@ -108,13 +96,7 @@ module _ (d : Drive) (r : Reached d) (t : Tick) (outside : T (not (is 0 d.state)
       → OffsetsWithin (samples (OffsetPsc d.settings)) offsets
       → (T (turning s) → T offsets.measured)
       → OffsetsIn s (samples (OffsetPsc d.settings)) 0 offsets
-  offsets_in s elsewhere within measured =
-      record {
-        within = within;
-        summing = λ u. absurd (T_not (is 2 s) u elsewhere);
-        measuring = λ u. absurd (T_not (is 2 s) u elsewhere);
-        measured = measured;
-      }
+  offsets_in s elsewhere within measured = grind arith
 
   -- a tick that goes to STOP
   stopped :
@@ -123,8 +105,7 @@ module _ (d : Drive) (r : Reached d) (t : Tick) (outside : T (not (is 0 d.state)
       → OffsetsWithin (samples (OffsetPsc d.settings)) offsets
       → retries ≤ RetryLimit d.settings
       → Reached (arrive d Stop flags offsets at_rest armed retries)
-  stopped flags within few =
-      arrived Stop tt flags (offsets_in Stop tt within (λ u. absurd u)) (rests_in_stop d.settings) (λ u. tt) few
+  stopped flags within few = grind (arith, arrived, offsets_in, rests_in_stop)
 
   -- a tick that enters one of the six states
   turned :
@@ -136,15 +117,14 @@ module _ (d : Drive) (r : Reached d) (t : Tick) (outside : T (not (is 0 d.state)
       → T (not (alight d (raised d t)))
       → Reached (entered d t (watch d t) (raised d t) (armed_by d t) s)
   turned s runs speed measured disarmed calm =
-      let apart = turns s runs in
-      arrived s apart.not_idle
-      (raised_in s (λ u. calm) (λ u. absurd (T_not (is 5 s) u apart.not_fault)))
-      (by_test (OffsetsIn s (samples (OffsetPsc d.settings)) 0) (is 2 s)
-      (λ u. absurd (T_not (is 2 s) u apart.not_measuring))
-      (λ u. offsets_in s u r.offsets.within (λ v. measured)))
-      (entered_in d.settings t (r.settings outside) (watch d t) d.run s speed)
-      (λ u. absurd (disarmed u))
-      r.retries
+      grind (
+        arith,
+        turns s runs,
+        arrived s,
+        raised_in s,
+        offsets_in s,
+        entered_in d.settings t (r.settings outside) (watch d t) d.run s speed,
+      )
 
   -- ---- arming
 
@@ -153,16 +133,11 @@ module _ (d : Drive) (r : Reached d) (t : Tick) (outside : T (not (is 0 d.state)
       (T (turning d.state) → T (not (low d.settings t)))
       → T (armed_by d t)
       → T (is 1 d.state || is 2 d.state)
-  still_waiting quiet armed =
-      or_cases d.armed (low d.settings t && not (is 5 d.state)) armed r.armed
-      (λ now.
-      let (held, not_fault) = and_yes (low d.settings t) (not (is 5 d.state)) now in
-      waiting d.state outside not_fault (not_T (turning d.state) (λ u. T_not (low d.settings t) held (quiet u))))
+  still_waiting quiet armed = grind (arith, and_yes, waiting)
 
   -- in the six states only a low would arm
   unarmed : T (turning d.state) → T (not (low d.settings t)) → T (armed_by d t) → ⊥
-  unarmed runs quiet armed =
-      T_not (is 1 d.state || is 2 d.state) (still_waiting (λ u. quiet) armed) (turns d.state runs).not_waiting
+  unarmed runs quiet armed = grind (arith, still_waiting, turns)
 
   -- ---- a tick that stays
 
@@ -172,20 +147,13 @@ module _ (d : Drive) (r : Reached d) (t : Tick) (outside : T (not (is 0 d.state)
       → (T (not (is 5 d.state)) → T (not (alight d (raised d t))))
       → Reached (stayed d t (watch d t) (raised d t) (armed_by d t) (nth d))
   stayed_reached target quiet calm =
-      record {
-        idle = λ u. absurd (T_not (is 0 d.state) u outside);
-        settings = r.settings;
-        hall = r.hall;
-        cycles = r.cycles;
-        ticks = omega arith;
-        retries = r.retries;
-        run = stayed_in d.settings t (r.settings outside) d.hall.still_count d.run d.state target r.run;
-        offsets = r.offsets;
-        armed = still_waiting quiet;
-        flags =
-            raised_in d.state calm
-            (λ u. old_stays always_live (FaultEnable d.settings) d.flags (standing d t) (r.flags.tripped u));
-      }
+      grind (
+        arith,
+        stayed_in d.settings t (r.settings outside) d.hall.still_count d.run d.state target,
+        still_waiting quiet,
+        raised_in d.state,
+        old_stays always_live (FaultEnable d.settings) d.flags (standing d t),
+      )
 
   -- ---- the ways
 
@@ -196,44 +164,19 @@ module _ (d : Drive) (r : Reached d) (t : Tick) (outside : T (not (is 0 d.state)
       → nat_abs t.target ≤ 32767
       → Way (grounds d t (standing d t) (raised d t)) s m
       → Reached (moved d t (watch d t) (raised d t) (armed_by d t) (nth d) m)
-  moved_reached at speed target (trips u alive) =
-      arrived Fault tt (raised_in Fault (λ v. absurd v) (λ v. alive))
-      (offsets_in Fault tt r.offsets.within (λ v. absurd v))
-      (entered_in d.settings t (r.settings outside) (watch d t) d.run Fault speed)
-      (λ v. absurd (and_yes (armed_by d t) false v).1)
-      r.retries
-  moved_reached at speed target (stops u held calm) =
-      stopped (raised_in Stop (λ v. calm) (λ v. absurd v)) r.offsets.within r.retries
+  moved_reached at speed target (trips u alive) = grind (arith, arrived, raised_in, offsets_in, entered_in, and_yes)
+  moved_reached at speed target (stops u held calm) = grind (arith, stopped, raised_in)
   moved_reached at speed target (goes_on {next = next} onward quiet calm) =
-      let runs = subst (λ (s : State). T (turning s)) at (goes onward).0 in
-      turned next (and_yes (turning next) (not (is 3 next)) (goes onward).1).0 speed (r.offsets.measured runs)
-      (λ w. unarmed runs quiet (and_yes (armed_by d t) (not (is 3 next || is 5 next)) w).0)
-      calm
-  moved_reached at speed target (calibrates unmeasured calm) =
-      arrived OffsetCal tt (raised_in OffsetCal (λ v. calm) (λ v. absurd v))
-      (record {
-        within = cleared_within d.offsets r.offsets.within;
-        summing = λ v. omega arith;
-        measuring = λ v. unmeasured;
-        measured = λ v. absurd v;
-      })
-      (entered_in d.settings t (r.settings outside) (watch d t) d.run OffsetCal speed)
-      (λ v. tt)
-      r.retries
-  moved_reached at speed target (starts measured armed held calm) =
-      turned BtsCharge tt speed measured (λ w. (and_yes (armed_by d t) false w).1) calm
-  moved_reached at speed target (measures done calm) =
-      stopped (raised_in Stop (λ v. calm) (λ v. absurd v))
-      (measured_within (samples (OffsetPsc d.settings)) d.offsets r.offsets.within)
-      r.retries
-  moved_reached at speed target (clears free clear) = stopped (cleared_in free) r.offsets.within (omega arith)
-  moved_reached at speed target (tries_again free held mode late few) =
-      stopped (cleared_in free) r.offsets.within (omega arith)
-  moved_reached at speed target (waits lacks quiet calm) = stayed_reached target (λ u. quiet) (λ u. calm)
-  moved_reached at speed target (rests stands calm) =
-      stayed_reached target
-      (λ u. absurd (T_not (turning d.state) u (subst (λ (s : State). T (not (turning s))) at stands)))
-      (λ u. calm (subst (λ (s : State). T (not (is 5 s))) (sym at) u))
+      let turns_on : T (turning next) = (and_yes (turning next) (not (is 3 next)) (goes onward).1).0 in
+      let runs : T (turning d.state) = subst (λ (s : State). T (turning s)) at (goes onward).0 in
+      turned next turns_on speed (r.offsets.measured runs) (grind (arith, unarmed runs quiet, and_yes)) calm
+  moved_reached at speed target (calibrates unmeasured calm) = grind (arith, arrived, raised_in, cleared_within, entered_in)
+  moved_reached at speed target (starts measured armed held calm) = grind (arith, turned BtsCharge, and_yes)
+  moved_reached at speed target (measures done calm) = grind (arith, stopped, raised_in, measured_within)
+  moved_reached at speed target (clears free clear) = grind (arith, stopped, cleared_in)
+  moved_reached at speed target (tries_again free held mode late few) = grind (arith, stopped, cleared_in)
+  moved_reached at speed target (waits lacks quiet calm) = grind (arith, stayed_reached)
+  moved_reached at speed target (rests stands calm) = grind (arith, stayed_reached)
 
   pub ticked_reached : nat_abs t.speed ≤ 32767 → nat_abs t.target ≤ 32767 → Reached (ticked d t)
   unfolding ticked

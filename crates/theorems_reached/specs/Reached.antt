@@ -1,11 +1,9 @@
 -- What holds of every drive state that a sequence of calls from power-up reaches.
-use Rattle.std.specs.Prelude.{◌≡◌, ◌||◌, not, List, ◌⊎◌, ℕ, ◌*◌, ◌%◌, ◌^◌, ◌≤◌, ◌<◌, T, nat_abs, length}
+use Rattle.std.specs.Prelude.{◌≡◌, ◌||◌, not, List, ◌⊎◌, ℕ, ◌*◌, ◌%◌, ◌^◌, ◌≤◌, ◌<◌, T, nat_abs, length, Option, Some, None}
 use Rattle.std.specs.Int.{w16}
 use Rattle.std.proofs.Common.{SFits}
 use Rattle.hall.specs.Layout.{Layout, layout, among}
 use Rattle.hall.specs.declared.Hall.{Hall}
-use Rattle.hall.specs.declared.fate.Kept.{Kept}
-use Rattle.hall.specs.declared.fate.Kept.TheVariants.{Nothing, Pattern}
 use Rattle.hall.specs.declared.layout.Sensors.{Sensors}
 use Rattle.hall.specs.declared.layout.Sensors.TheVariants.{Two}
 use Rattle.states.specs.States.{is, turning}
@@ -32,9 +30,9 @@ pub record Loaded (settings : List ℕ) : Type 0 where
   pub rules : (i : ℕ) → i < setting_count → T (rule settings i)
 
 -- the kept pattern is none, or one of the layout's
-abbrev pub Known : Layout → Kept → Type 0
-Known l Nothing = Unit {0}
-Known l (Pattern p) = T (among l.order p)
+abbrev pub Known : Layout → Option ℕ → Type 0
+Known l None = Unit {0}
+Known l (Some p) = T (among l.order p)
 
 -- the Hall part
 pub record HallWithin (sensors : Sensors) (hall : Hall) : Type 0 where
@@ -45,7 +43,7 @@ pub record HallWithin (sensors : Sensors) (hall : Hall) : Type 0 where
   pub angle : SFits w16 hall.angle
   -- "dead streak up by one, at most 2"; "At 2, .. the kept pattern is forgotten."
   pub dead : hall.dead_streak ≤ 2
-  pub forgotten : hall.dead_streak ≡ 2 → hall.kept ≡ Nothing
+  pub forgotten : hall.dead_streak ≡ 2 → hall.kept ≡ None
   -- 02, M-101, of two sensors: "The dead-pattern test does not apply."
   pub never_dead : sensors ≡ Two → hall.dead_streak ≡ 0
   -- "At 3, .. the stray streak returns to zero."

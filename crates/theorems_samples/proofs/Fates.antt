@@ -7,6 +7,7 @@ use mathlib.Core.Bool.{Bool, true, false, not, ◌||◌, cond}
 use lib.Dec.{T, eqb, eqb→eq, eqb_refl}
 use lib.IntN.{ℤ}
 use borrow.Author.Tests.{eq-eqb, ne_eqb}
+use Rattle.std.specs.Prelude.{Option, Some, None}
 use Rattle.numbers.specs.Count.{up}
 use Rattle.hall.specs.Layout.{Layout, three, two, layout, among, next, previous, sector_of}
 use Rattle.hall.specs.Fate.{fate, beside}
@@ -15,8 +16,6 @@ use Rattle.hall.specs.Turns.{clockwise, counterclockwise}
 use Rattle.hall.specs.declared.Hall.{Hall}
 use Rattle.hall.specs.declared.fate.Fate.{Fate}
 use Rattle.hall.specs.declared.fate.Fate.TheVariants.{Dead, First, Same, Forward, Back, Stray}
-use Rattle.hall.specs.declared.fate.Kept.{Kept}
-use Rattle.hall.specs.declared.fate.Kept.TheVariants.{Nothing, Pattern}
 use Rattle.hall.specs.declared.layout.Sensors.{Sensors}
 use Rattle.hall.specs.declared.layout.Sensors.TheVariants.{Three, Two}
 use Rattle.hall.proofs.Layouts.{one_of}
@@ -26,7 +25,7 @@ use Rattle.theorems_reached.specs.Reached.{Known, HallWithin}
 use Rattle.theorems_samples.specs.Letters.{letter_against, Samples, with_letter, width_of, width_left, moved_by}
 
 -- the letter by the order alone: dead is what it does not have
-abbrev pub letter_in : Layout → Kept → ℕ → ℕ
+abbrev pub letter_in : Layout → Option ℕ → ℕ → ℕ
 letter_in l kept p = cond (among l.order p) (letter_against l kept p) (code "D")
 
 -- two tests that pass where the other does are the same
@@ -70,14 +69,14 @@ module _ (s : Sensors) where
       (λ t. rw (eqb→eq p (next l k) t, (round s clockwise k k-stands).back_here) (eqb_refl k))
       (λ t. rw (eqb→eq k (previous l p) t, (round s counterclockwise p p-stands).back_here) (eqb_refl p))
 
-  pub letter_is : (kept : Kept) (p : ℕ) → Known l kept → letter_in l kept p ≡ letter_of (fate l p kept)
+  pub letter_is : (kept : Option ℕ) (p : ℕ) → Known l kept → letter_in l kept p ≡ letter_of (fate l p kept)
   unfolding fate beside
   letter_is kept p known = go (among l.order p) refl
     where
-      against : (kept : Kept) → Known l kept → T (among l.order p)
+      against : (kept : Option ℕ) → Known l kept → T (among l.order p)
           → letter_against l kept p ≡ letter_of (beside (previous l p) p (next l p) kept)
-      against Nothing known stands = refl
-      against (Pattern k) known stands =
+      against None known stands = refl
+      against (Some k) known stands =
           rw (same_either_way p k, next_or_previous k p known stands)
           (named (eqb k p) (eqb k (previous l p)) (eqb k (next l p)))
 
@@ -87,29 +86,29 @@ module _ (s : Sensors) where
       go false e = refl
 
   -- a step forward comes from a pattern of the order, and a step back leads to one
-  abbrev Stands : Kept → ℕ → Fate → Type 0
+  abbrev Stands : Option ℕ → ℕ → Fate → Type 0
   Stands kept p Dead = Unit {0}
   Stands kept p First = Unit {0}
   Stands kept p Same = Unit {0}
-  Stands Nothing p Forward = ⊥
-  Stands (Pattern k) p Forward = T (among l.order k)
+  Stands None p Forward = ⊥
+  Stands (Some k) p Forward = T (among l.order k)
   Stands kept p Back = T (among l.order p)
   Stands kept p Stray = Unit {0}
 
-  stands_by : (kept : Kept) (p : ℕ) → Known l kept → Stands kept p (fate l p kept)
+  stands_by : (kept : Option ℕ) (p : ℕ) → Known l kept → Stands kept p (fate l p kept)
   unfolding fate beside
   stands_by kept p known = go (among l.order p) refl
     where
       steps : (k : ℕ) → T (among l.order k) → T (among l.order p) → (same forward back : Bool)
-          → Stands (Pattern k) p (cond same Same (cond forward Forward (cond back Back Stray)))
+          → Stands (Some k) p (cond same Same (cond forward Forward (cond back Back Stray)))
       steps k from to true forward back = tt
       steps k from to false true back = from
       steps k from to false false true = to
       steps k from to false false false = tt
 
-      within : (kept : Kept) → Known l kept → T (among l.order p) → Stands kept p (beside (previous l p) p (next l p) kept)
-      within Nothing known to = tt
-      within (Pattern k) known to = steps k known to (eqb k p) (eqb k (previous l p)) (eqb k (next l p))
+      within : (kept : Option ℕ) → Known l kept → T (among l.order p) → Stands kept p (beside (previous l p) p (next l p) kept)
+      within None known to = tt
+      within (Some k) known to = steps k known to (eqb k p) (eqb k (previous l p)) (eqb k (next l p))
 
       go : (to : Bool) → among l.order p ≡ to → Stands kept p (cond to (beside (previous l p) p (next l p) kept) Dead)
       go true e = within kept known (rw e tt)
@@ -128,8 +127,8 @@ unfolding dead_sample stray_sample
 follows_by l hall m p offset f Dead =
     record {
       kept =
-          ap (λ (n : ℕ). cond (eqb (up 2 n) 2) Nothing m.kept) f.dead
-          ∙ ap (cond (eqb (up 2 hall.dead_streak) 2) Nothing) f.kept;
+          ap (λ (n : ℕ). cond (eqb (up 2 n) 2) None m.kept) f.dead
+          ∙ ap (cond (eqb (up 2 hall.dead_streak) 2) None) f.kept;
       dead = rw f.dead;
       stray = refl;
     }
@@ -140,8 +139,8 @@ follows_by l hall m p offset f Back = record { kept = refl; dead = refl; stray =
 follows_by l hall m p offset f Stray =
     record {
       kept =
-          ap (λ (n : ℕ). cond (eqb (up 3 n) 3) Nothing m.kept) f.stray
-          ∙ ap (cond (eqb (up 3 hall.stray_streak) 3) Nothing) f.kept;
+          ap (λ (n : ℕ). cond (eqb (up 3 n) 3) None m.kept) f.stray
+          ∙ ap (cond (eqb (up 3 hall.stray_streak) 3) None) f.kept;
       dead = refl;
       stray = rw f.stray;
     }
@@ -168,10 +167,10 @@ module _ (s : Sensors) (hall : Hall) (p : ℕ) (offset : ℤ) (small : hall.posi
   moved_by_lem Same stands = refl
   moved_by_lem Forward stands = go hall.kept stands
     where
-      go : (kept : Kept) → Stands s kept p Forward
+      go : (kept : Option ℕ) → Stands s kept p Forward
           → plus (sector_of (layout s) (number kept)).width hall.position ≡ (hall.position + width_left (layout s) kept) % 2 ^ 32
-      go Nothing stands = absurd stands
-      go (Pattern k) stands = refl
+      go None stands = absurd stands
+      go (Some k) stands = refl
   moved_by_lem Back stands = let (some, few) = wide s p stands in omega arith
   moved_by_lem Stray stands = refl
 
@@ -184,10 +183,10 @@ module _ (s : Sensors) (hall : Hall) (p : ℕ) (offset : ℤ) (small : hall.posi
   only_steps Same stands = rw (eq-eqb hall.position hall.position refl)
   only_steps Forward stands = go hall.kept stands
     where
-      go : (kept : Kept) → Stands s kept p Forward
+      go : (kept : Option ℕ) → Stands s kept p Forward
           → not (eqb (plus (sector_of (layout s) (number kept)).width hall.position) hall.position) ≡ true
-      go Nothing stands = absurd stands
-      go (Pattern k) stands = rw (forward_moves (width_of (layout s) k) (wide s k stands))
+      go None stands = absurd stands
+      go (Some k) stands = rw (forward_moves (width_of (layout s) k) (wide s k stands))
   only_steps Back stands = rw (back_moves (width_of (layout s) p) (wide s p stands))
   only_steps Stray stands = rw (eq-eqb hall.position hall.position refl)
 

@@ -11,13 +11,13 @@ use mir.Syntax.{w16}
 use mir.Val.{to_z}
 use mir.Facts.{ltb_no}
 use borrow.Author.Tests.{eq-eqb}
+use Rattle.std.specs.Prelude.{Option}
 use Rattle.hall.specs.Layout.{three, two, layout, among}
 use Rattle.hall.specs.Fate.{fate}
 use Rattle.hall.specs.Sample.{sampled, after, dead_sample, stray_sample}
 use Rattle.hall.specs.declared.Hall.{Hall}
 use Rattle.hall.specs.declared.fate.Fate.{Fate}
 use Rattle.hall.specs.declared.fate.Fate.TheVariants.{Dead, First, Same, Forward, Back, Stray}
-use Rattle.hall.specs.declared.fate.Kept.{Kept}
 use Rattle.hall.specs.declared.layout.Sensors.{Sensors}
 use Rattle.hall.specs.declared.layout.Sensors.TheVariants.{Three, Two}
 use Rattle.states.specs.States.{is}
@@ -85,7 +85,7 @@ ticked_hall d t = go (chosen-move d t)
     go Retry = refl
 
 -- of the patterns that a cycle takes, he calls dead those that the order does not have
-letter_in_lem : (numbers : List ℕ) (kept : Kept) (p : ℕ) → p ≤ highest_pattern (chosen numbers)
+letter_in_lem : (numbers : List ℕ) (kept : Option ℕ) (p : ℕ) → p ≤ highest_pattern (chosen numbers)
     → letter_for numbers kept p ≡ letter_in (layout (chosen numbers)) kept p
 letter_in_lem numbers kept p small =
     rw (dead_alike numbers p, same_layout numbers) (go (dead_pattern (chosen numbers) p) (outside_the_order (chosen numbers) p small))

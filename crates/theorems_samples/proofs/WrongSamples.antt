@@ -7,13 +7,12 @@ use mathlib.Core.List.{List, [], ◌∷◌, ◌++◌, map, reverse}
 use Prim.Native.Nat.{ℕ, ◌+◌, ◌-◌, ◌%◌, ◌^◌}
 use Prim.Native.Char.{code}
 use lib.Dec.{eqb}
+use Rattle.std.specs.Prelude.{Option, Some, None}
 use Rattle.theorems_history.specs.Log.{Machine, log}
 use Rattle.theorems_history.proofs.Judges.{judges}
 use Rattle.hall.specs.declared.Hall.{Hall}
 use Rattle.hall.specs.declared.fate.Fate.{Fate}
 use Rattle.hall.specs.declared.fate.Fate.TheVariants.{Dead, First, Same, Forward, Back, Stray}
-use Rattle.hall.specs.declared.fate.Kept.{Kept}
-use Rattle.hall.specs.declared.fate.Kept.TheVariants.{Nothing, Pattern}
 use Rattle.hall.specs.declared.layout.Sensors.{Sensors}
 use Rattle.hall.specs.declared.layout.Sensors.TheVariants.{Three}
 use Rattle.drive.specs.Answer.{letter_of, letter, reply_telling}
@@ -23,8 +22,6 @@ use Rattle.drive.specs.Calls.{fresh, becomes, power_up}
 use Rattle.drive.specs.AnyCall.{Call, loads, cycles, ticks, block_loads, reply}
 use Rattle.drive.specs.declared.Drive.{Drive}
 use Rattle.drive.specs.declared.answer.Answer.{Answer}
-use Rattle.drive.specs.declared.answer.Judged.{Judged}
-use Rattle.drive.specs.declared.answer.Judged.TheVariants.{Nothing as Unjudged, Sample}
 use Rattle.drive.specs.declared.answer.Reply.{Reply}
 use Rattle.theorems_reached.specs.Machine.{machine_of}
 use Rattle.theorems_demands.specs.NamedCalls.{settings_with, loaded, shows, low}
@@ -51,20 +48,20 @@ accepted r = eqb r.answer.number 0
 
 -- ---- replies that tell another sample
 
-abbrev telling : Judged → Reply → Reply
+abbrev telling : Option Fate → Reply → Reply
 telling judged r = reply_telling judged r.answer.number r.answer.place r.drive
 
 -- the name that is told of a sample
-abbrev name_of : (Fate → Judged) → Judged → Judged
-name_of name Unjudged = Unjudged
-name_of name (Sample f) = name f
+abbrev name_of : (Fate → Option Fate) → Option Fate → Option Fate
+name_of name None = None
+name_of name (Some f) = name f
 
-abbrev renamed : (Fate → Judged) → Reply → Reply
+abbrev renamed : (Fate → Option Fate) → Reply → Reply
 renamed name r = telling (name_of name r.answer.judged) r
 
 -- two names exchanged
-abbrev exchanged : Fate → Fate → Fate → Judged
-exchanged a b f = cond (eqb (letter_of f) (letter_of a)) (Sample b) (cond (eqb (letter_of f) (letter_of b)) (Sample a) (Sample f))
+abbrev exchanged : Fate → Fate → Fate → Option Fate
+exchanged a b f = cond (eqb (letter_of f) (letter_of a)) (Some b) (cond (eqb (letter_of f) (letter_of b)) (Some a) (Some f))
 
 -- ---- replies that leave another Hall part
 
@@ -74,7 +71,7 @@ leaving change r =
     reply_telling r.answer.judged r.answer.number r.answer.place
     (becomes d d.state (change d.hall) d.flags d.cycles d.ticks d.offsets d.run d.armed d.retries)
 
-abbrev hall_with : Kept → ℕ → ℕ → Hall → Hall
+abbrev hall_with : Option ℕ → ℕ → ℕ → Hall → Hall
 hall_with kept position stray hall =
     record {
       kept = kept;
@@ -86,7 +83,7 @@ hall_with kept position stray hall =
     }
 
 -- what it left, but for the pattern, the position or the stray streak
-abbrev keeping : Kept → Reply → Reply
+abbrev keeping : Option ℕ → Reply → Reply
 keeping kept = leaving (λ h. hall_with kept h.position h.stray_streak h)
 
 abbrev counting : (ℕ → ℕ) → Reply → Reply
@@ -100,17 +97,17 @@ is_fate n r = eqb (letter r.answer.judged) n
 
 -- what an accepted load left, with other sensors than it chose
 abbrev sensing : Sensors → Reply → Reply
-sensing sensors r = cond (accepted r) (reply_telling Unjudged 0 0 (fresh Stop r.drive.settings sensors)) r
+sensing sensors r = cond (accepted r) (reply_telling None 0 0 (fresh Stop r.drive.settings sensors)) r
 
 -- ---- a drive that remembers the name before: it tells each cycle the letter of the one before it
 
 abbrev one_late : Machine
 one_late =
     record {
-      State = Drive × Judged;
+      State = Drive × Option Fate;
       Call = Call;
       Answer = Answer;
-      power_up = (power_up, Unjudged);
+      power_up = (power_up, None);
       step = λ s call.
           let r : Reply = reply s.0 call in (r.drive, cond (is_cycle call && accepted r) r.answer.judged s.1);
       answer = λ s call.
@@ -137,28 +134,28 @@ rows =
     (changed (λ d call. renamed (exchanged Forward Back)), fed (1 ∷ 3 ∷ [])) ∷
     (changed (λ d call. renamed (exchanged Dead Stray)), fed (0 ∷ [])) ∷
     -- "a refused sample is not judged"; a tick and a load bring none
-    (changed (λ d call r. cond (is_cycle call && not (accepted r)) (telling (Sample Same) r) r), fed (8 ∷ [])) ∷
-    (changed (λ d call r. cond (is_cycle call) r (telling (Sample Same) r)), loaded ∷ low ∷ []) ∷
-    (changed (λ d call r. cond (is_cycle call) r (telling (Sample First) r)), loaded ∷ []) ∷
+    (changed (λ d call r. cond (is_cycle call && not (accepted r)) (telling (Some Same) r) r), fed (8 ∷ [])) ∷
+    (changed (λ d call r. cond (is_cycle call) r (telling (Some Same) r)), loaded ∷ low ∷ []) ∷
+    (changed (λ d call r. cond (is_cycle call) r (telling (Some First) r)), loaded ∷ []) ∷
     -- "the sample that makes flag 15 keeps its name"
-    (changed (λ d call r. cond (eqb r.answer.live 32768) (telling Unjudged r) r), fed (1 ∷ 6 ∷ 6 ∷ 6 ∷ [])) ∷
-    (changed (λ d call r. cond (eqb r.answer.live 32768) (telling Unjudged r) r), fed (1 ∷ 0 ∷ 7 ∷ [])) ∷
+    (changed (λ d call r. cond (eqb r.answer.live 32768) (telling None r) r), fed (1 ∷ 6 ∷ 6 ∷ 6 ∷ [])) ∷
+    (changed (λ d call r. cond (eqb r.answer.live 32768) (telling None r) r), fed (1 ∷ 0 ∷ 7 ∷ [])) ∷
     -- the pattern kept over two dead samples; forgotten after one; forgotten by a tick; forgotten by a refused cycle; kept over a load
     (changed (λ d call r. cond (is_fate (code "D") r) (keeping d.hall.kept r) r), fed (1 ∷ 0 ∷ 0 ∷ 1 ∷ [])) ∷
-    (changed (λ d call r. cond (is_fate (code "D") r) (keeping Nothing r) r), fed (1 ∷ 0 ∷ 1 ∷ [])) ∷
-    (changed (λ d call r. cond (is_cycle call) r (keeping Nothing r)), loaded ∷ shows 1 ∷ low ∷ shows 1 ∷ []) ∷
-    (changed (λ d call r. cond (accepted r) r (keeping Nothing r)), fed (1 ∷ 8 ∷ 1 ∷ [])) ∷
+    (changed (λ d call r. cond (is_fate (code "D") r) (keeping None r) r), fed (1 ∷ 0 ∷ 1 ∷ [])) ∷
+    (changed (λ d call r. cond (is_cycle call) r (keeping None r)), loaded ∷ shows 1 ∷ low ∷ shows 1 ∷ []) ∷
+    (changed (λ d call r. cond (accepted r) r (keeping None r)), fed (1 ∷ 8 ∷ 1 ∷ [])) ∷
     (changed (λ d call r. cond (is_cycle call) r (keeping d.hall.kept r)), loaded ∷ shows 1 ∷ fed (1 ∷ [])) ∷
     -- a stray streak that a dead sample does not end; one that is forgotten at its second
     (
       changed (λ d call r. cond (is_fate (code "D") r) (straying d.hall.stray_streak r) r),
       fed (1 ∷ 6 ∷ 6 ∷ 0 ∷ 6 ∷ 1 ∷ []),
     ) ∷ (
-      changed (λ d call r. cond (is_fate (code "X") r && eqb d.hall.stray_streak 1) (keeping Nothing r) r),
+      changed (λ d call r. cond (is_fate (code "X") r && eqb d.hall.stray_streak 1) (keeping None r) r),
       fed (1 ∷ 6 ∷ 6 ∷ 1 ∷ []),
     ) ∷
     -- a stray pattern that is kept
-    (changed (λ d call r. cond (is_fate (code "X") r) (keeping (Pattern 6) r) r), fed (1 ∷ 6 ∷ 6 ∷ [])) ∷
+    (changed (λ d call r. cond (is_fate (code "X") r) (keeping (Some 6) r) r), fed (1 ∷ 6 ∷ 6 ∷ [])) ∷
     -- three sensors whatever is loaded; those of the load before
     (changed (λ d call r. cond (is_load call) (sensing Three r) r), two ∷ shows 0 ∷ []) ∷
     (changed (λ d call r. cond (is_load call && not (is 0 d.state)) (sensing d.sensors r) r), two ∷ fed (0 ∷ [])) ∷

@@ -4,12 +4,10 @@
 -- he can tell the letter of each answer and of its line, and its position from the position that the answer before it showed. Neither the
 -- drive's state is read nor any letter that it gave; each test is written anew here from documents 01 and 02, that of a dead pattern in
 -- the onlooker's words (`onlooker` Words.antt `is_dead`). What a layout is, its order and its widths, is `hall`'s (Layout.antt).
-use Rattle.std.specs.Prelude.{ℕ, ◌+◌, ◌-◌, ◌%◌, ◌^◌, ◌≡◌, Bool, not, ◌||◌, cond, List, [], ◌∷◌, T, eqb}
+use Rattle.std.specs.Prelude.{ℕ, ◌+◌, ◌-◌, ◌%◌, ◌^◌, ◌≡◌, Bool, not, ◌||◌, cond, List, [], ◌∷◌, T, eqb, Option, Some, None}
 use Prim.Native.Char.{code}
 use Rattle.numbers.specs.Count.{up}
 use Rattle.hall.specs.Layout.{Layout, three, two, under, next}
-use Rattle.hall.specs.declared.fate.Kept.{Kept}
-use Rattle.hall.specs.declared.fate.Kept.TheVariants.{Nothing, Pattern}
 use Rattle.theorems_history.specs.Log.{Entry, state_after, log}
 use Rattle.drive.specs.Answer.{letter}
 use Rattle.drive.specs.AnyCall.{Call, loads, cycles, ticks, block_loads}
@@ -30,46 +28,46 @@ layout_of numbers = cond (eqb (setting 25 numbers) 2) two three
 -- ---- the letter of a pattern, under the loaded numbers
 
 -- against the kept pattern: "Any of 1..6 with none kept"; "Same as kept"; "Next or previous"; "Another of 1..6"
-abbrev pub letter_against : Layout → Kept → ℕ → ℕ
-letter_against l Nothing p = code "F"
-letter_against l (Pattern k) p =
+abbrev pub letter_against : Layout → Option ℕ → ℕ → ℕ
+letter_against l None p = code "F"
+letter_against l (Some k) p =
     cond (eqb p k) (code "S") (cond (eqb p (next l k)) (code "W") (cond (eqb k (next l p)) (code "B") (code "X")))
 
 -- "0 or 7", with three sensors; 02, M-101, of two: "The dead-pattern test does not apply."
-abbrev pub letter_for : List ℕ → Kept → ℕ → ℕ
+abbrev pub letter_for : List ℕ → Option ℕ → ℕ → ℕ
 letter_for numbers kept p = cond (is_dead numbers p) (code "D") (letter_against (layout_of numbers) kept p)
 
 -- ---- what he keeps of the samples
 
 -- the kept pattern, and the dead and the stray samples in a row
 pub record Samples : Type 0 where
-  pub kept : Kept
+  pub kept : Option ℕ
   pub dead : ℕ
   pub stray : ℕ
 
 -- "Power-up is IDLE, all zero."
 abbrev pub no_sample : Samples
-no_sample = record { kept = Nothing; dead = 0; stray = 0 }
+no_sample = record { kept = None; dead = 0; stray = 0 }
 
 -- "dead streak up by one, at most 2; stray streak zero. At 2, .. the kept pattern is forgotten."
 abbrev pub with_dead : Samples → Samples
-with_dead m = let dead : ℕ = up 2 m.dead in record { kept = cond (eqb dead 2) Nothing m.kept; dead = dead; stray = 0 }
+with_dead m = let dead : ℕ = up 2 m.dead in record { kept = cond (eqb dead 2) None m.kept; dead = dead; stray = 0 }
 
 -- "stray streak up, dead streak zero. At 3, .. the pattern is forgotten and the stray streak returns to zero."
 abbrev pub with_stray : Samples → Samples
 with_stray m =
     let stray : ℕ = up 3 m.stray in
-    record { kept = cond (eqb stray 3) Nothing m.kept; dead = 0; stray = cond (eqb stray 3) 0 stray }
+    record { kept = cond (eqb stray 3) None m.kept; dead = 0; stray = cond (eqb stray 3) 0 stray }
 
 -- "kept; .. both streaks zero"
-abbrev pub keeping : Kept → Samples
+abbrev pub keeping : Option ℕ → Samples
 keeping kept = record { kept = kept; dead = 0; stray = 0 }
 
 -- with a pattern more, by its letter
 abbrev pub with_letter : ℕ → ℕ → Samples → Samples
 with_letter letter p m =
     cond (eqb letter (code "D")) (with_dead m)
-    (cond (eqb letter (code "X")) (with_stray m) (cond (eqb letter (code "S")) (keeping m.kept) (keeping (Pattern p))))
+    (cond (eqb letter (code "X")) (with_stray m) (cond (eqb letter (code "S")) (keeping m.kept) (keeping (Some p))))
 
 -- with an accepted call more, under the numbers that were loaded before it: "An accepted load .. clears everything else to power-up values:
 -- .. pattern"; a tick brings no sample
@@ -89,7 +87,7 @@ samples_of (e ∷ past) = cond (accepted e) (with_call (numbers_of past) (sample
 
 -- ---- the letter of an answer: ".. one letter (F, S, W, B, D, X, or a full stop otherwise)"
 
-abbrev pub letter_of_call : List ℕ → Kept → Call → ℕ
+abbrev pub letter_of_call : List ℕ → Option ℕ → Call → ℕ
 letter_of_call numbers kept (loads loaded) = code "."
 letter_of_call numbers kept (cycles c) = letter_for numbers kept c.pattern
 letter_of_call numbers kept (ticks t) = code "."
@@ -109,17 +107,17 @@ shown_position (e ∷ past) = e.answer.position
 abbrev pub width_of : Layout → ℕ → ℕ
 width_of l p = under l.order l.widths p
 
-abbrev pub width_left : Layout → Kept → ℕ
-width_left l Nothing = 0
-width_left l (Pattern k) = width_of l k
+abbrev pub width_left : Layout → Option ℕ → ℕ
+width_left l None = 0
+width_left l (Some k) = width_of l k
 
 -- "The position counter runs modulo 2^32."
-abbrev pub moved_by : ℕ → Layout → Kept → ℕ → ℕ → ℕ
+abbrev pub moved_by : ℕ → Layout → Option ℕ → ℕ → ℕ → ℕ
 moved_by letter l kept p position =
     cond (eqb letter (code "W")) ((position + width_left l kept) % 2 ^ 32)
     (cond (eqb letter (code "B")) ((position + (2 ^ 32 - width_of l p)) % 2 ^ 32) position)
 
-abbrev pub position_of_call : List ℕ → Kept → Call → ℕ → ℕ
+abbrev pub position_of_call : List ℕ → Option ℕ → Call → ℕ → ℕ
 position_of_call numbers kept (loads loaded) position = 0
 position_of_call numbers kept (cycles c) position =
     moved_by (letter_for numbers kept c.pattern) (layout_of numbers) kept c.pattern position

@@ -1,5 +1,6 @@
 -- What callers of this crate cite besides its promises.
 pub mod Table
 pub mod Passed
+pub mod OneToOne
 -- Of the promises themselves.
 pub mod OneReply

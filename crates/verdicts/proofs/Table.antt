@@ -4,14 +4,14 @@ use mathlib.Core.Path.{◌≡◌, refl, sym, ap, ◌∙◌}
 use mathlib.Core.List.{List, [], ◌∷◌}
 use mathlib.Core.Logic.{◌↔◌}
 use lib.Ieee.Bits.{is_true, is_false}
+use native.Mathlib.Omega.{arith}
 use Rattle.numbers.proofs.Tests.{decide}
-use Rattle.verdicts.specs.Table.{Row, told, verdict, accepted, First, here, later}
-use Rattle.verdicts.specs.declared.Verdict.{Verdict}
+use Rattle.verdicts.specs.Table.{Verdict, Row, told, verdict, accepted, First, here, later}
 
 -- a row that is the first to hold gives the verdict
 first_given : {rows : List Row} {r : Row} → First rows r → verdict rows ≡ told r
-first_given (here {r} holds) = rw (is_true r.holds holds)
-first_given (later {r} fails first) = rw (is_false r.holds fails) (first_given first)
+first_given (here {r} holds) = grind arith
+first_given (later {r} fails first) = let rest = first_given first in grind (arith, rest)
 
 -- a number that is given is that of the first row to hold
 given_first : (rows : List Row) → ((verdict rows).number ≡ 0 → ⊥) → (r : Row) × First rows r × (verdict rows ≡ told r)
@@ -39,4 +39,5 @@ accepted_otherwise [] none = refl
 accepted_otherwise (r ∷ rows) none =
     decide r.holds (λ holds. absurd (none r (here {r = r} holds)))
     (λ fails.
-    rw (is_false r.holds fails) (accepted_otherwise rows (λ q first. none q (later {r = r} fails first))))
+    let rest = accepted_otherwise rows (λ q first. none q (later {r = r} fails first)) in
+    grind (arith, rest))

@@ -1,36 +1,34 @@
 -- A turn that wants no other ends the run, and so does the last for which there is fuel; any other is the next of it.
-use Rattle.std.proofs.Common.{ℕ, ◌-◌, ap, sym, ◌∙◌}
-use Rattle.std.specs.Prelude.{eqb}
-use borrow.Author.Tests.{eq-eqb, ne_eqb}
-use Rattle.judge.specs.Run.{wants_turn, runs}
-use Rattle.judge.specs.declared.Ran.{Ran}
-use Rattle.judge.proofs.Turns.{stops, goes}
+use Rattle.std.proofs.Common.{suc, ◌+◌, ◌-◌, ◌≡◌, length, ◌∙◌, arith}
+use Rattle.judge.specs.Run.{runs}
+use Rattle.judge.proofs.Runs.{stops, goes}
 use Rattle.judge.proofs.run.Goals as goal
 
-pub returns-then-ran-ne-TURN-clause-result : goal.returns-then-ran-ne-TURN-clause-result
-returns-then-ran-ne-TURN-clause-result c =
-    let last = ne_eqb c.onward-ran.result.wants wants_turn c.if-ran-ne-TURN.true in
-    c.onward-ran.ensures.result
-    ∙ sym (stops c.loop-ran.left c.args.closed c.args.input.now c.args.finished c.args.lines.now c.loop-ran.ran
-    (ap (λ (r : Ran). eqb r.wants wants_turn) (sym c.onward-ran.ensures.result) ∙ last))
-    ∙ c.loop-ran.invariant.0
+pub returns-then-ne-clause-result : goal.returns-then-ne-clause-result
+returns-then-ne-clause-result c =
+    let records = c.args.records in
+    let lines = c.args.lines in
+    let fuel = length records.bytes.now - c.loop.index in
+    stops records.over records.bytes.now lines.over lines.bytes.now c.loop.ran c.onward-ran.result c.onward-ran.ensures.result
+    c.ne.result c.ne.ensures fuel c.if-ne.true
+    ∙ c.loop.invariant.to_come
 
-pub returns-then-left-eq0-clause-result : goal.returns-then-left-eq0-clause-result
+pub loop-preserved : goal.loop-preserved
+loop-preserved c =
+    let records = c.args.records in
+    let lines = c.args.lines in
+    let fuel = length records.bytes.now - (c.loop.index + 1) in
+    let left : suc fuel ≡ length records.bytes.now - c.loop.index = omega arith in
+    let on = goes records.over records.bytes.now lines.over lines.bytes.now c.loop.ran c.onward-ran.result c.onward-ran.ensures.result
+    c.ne.result c.ne.ensures fuel c.if-ne.false in
+    record {
+      to_come = rw left at on ∙ c.loop.invariant.to_come;
+      taken = c.onward-ran.ensures.within.0;
+      lines = c.onward-ran.ensures.within.1;
+    }
+
+pub returns-clause-result : goal.returns-clause-result
 unfolding runs
-returns-then-left-eq0-clause-result c =
-    c.onward-ran.ensures.result
-    ∙ ap (λ (n : ℕ). runs n c.args.closed c.args.input.now c.args.finished c.args.lines.now c.loop-ran.ran) (sym c.if-left-eq0.true)
-    ∙ c.loop-ran.invariant.0
-
-pub loop-ran-preserved : goal.loop-ran-preserved
-loop-ran-preserved c =
-    let more = eq-eqb c.onward-ran.result.wants wants_turn c.if-ran-ne-TURN.false in (
-      ap (λ (r : Ran). runs (c.loop-ran.left - 1) c.args.closed c.args.input.now c.args.finished c.args.lines.now r)
-          c.onward-ran.ensures.result
-          ∙ sym (goes c.loop-ran.left c.args.closed c.args.input.now c.args.finished c.args.lines.now c.loop-ran.ran
-          c.if-left-eq0.false
-          (ap (λ (r : Ran). eqb r.wants wants_turn) (sym c.onward-ran.ensures.result) ∙ more))
-          ∙ c.loop-ran.invariant.0,
-      c.onward-ran.ensures.within.0,
-      c.onward-ran.ensures.within.1,
-    )
+returns-clause-result c =
+    let left : length c.args.records.bytes.now - c.loop.index ≡ 0 = omega arith in
+    c.onward.ensures.result ∙ rw left at c.loop.invariant.to_come

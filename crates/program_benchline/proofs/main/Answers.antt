@@ -9,8 +9,8 @@ use Rattle.program_benchline.proofs.main.Goals as goal
 filled : (n : ℕ) → length {0} {A = ℕ} (replicate n 0) ≡ n
 filled n = length-replicate {0} {A = ℕ} n 0
 
-pub slice_bounds-serve-end-2 : goal.slice_bounds-serve-end-2
-slice_bounds-serve-end-2 c = sym (filled output_size)
+pub slice_bounds-answer-end-2 : goal.slice_bounds-answer-end-2
+slice_bounds-answer-end-2 c = sym (filled output_size)
 
-pub serve-requires : goal.serve-requires
-serve-requires c = (filled input_size, filled output_size)
+pub answer-requires : goal.answer-requires
+answer-requires c = (filled input_size, filled output_size)

@@ -1,21 +1,9 @@
--- A turn of `blocks_of` stores the block that begins where the one before it ends.
-use Rattle.std.proofs.Common.{refl, rules, arith, add-one, length-set}
-use lib.Seq.{take-suc-set}
-use Rattle.blocks.specs.Table.{place_of, block_at, blocks_of}
+-- `blocks_of` may stop at the first block of a bad kind.
+use Rattle.std.proofs.Common.{arith}
+use Rattle.blocks.proofs.Places.{stopped}
 use Rattle.blocks.proofs.handed.blocks_of.Goals as goal
 
-pub loop-k-init : goal.loop-k-init
-unfolding place_of blocks_of
-loop-k-init c = (search rules, search rules, refl, refl, refl)
-
-pub loop-k-preserved : goal.loop-k-preserved
-unfolding place_of blocks_of block_at
-loop-k-preserved c =
-    let inv = c.loop-k.invariant in (
-      search rules,
-      search rules,
-      rw (add-one, c.block_size-place.ensures.0, c.block_at-block.ensures, inv.2),
-      simp length-set inv.3,
-      rw (add-one, take-suc-set c.loop-k.blocks c.loop-k.k c.block_at-block.result (omega (arith, inv.3)))
-          (rw (inv.4, c.block_at-block.ensures, inv.2)),
-    )
+pub returns-then-byte_at-gt-FILLED : goal.returns-then-byte_at-gt-FILLED
+returns-then-byte_at-gt-FILLED c =
+    stopped c.args.bytes.now c.loop-block.block-index c.loop-block.place (omega arith) c.loop-block.invariant.1
+    (omega (arith, c.byte_at.ensures))

@@ -1,30 +1,23 @@
--- `completed` has filled its array up to `i` with the numbers; what is left of it are threes.
-use Rattle.std.proofs.Common.{◌≡◌, length, refl, ap, ◌∙◌, arith, length-set}
-use Rattle.numbers.proofs.Fill.{filled, filled_more}
-use Rattle.settings.proofs.Meant.{threes, filled_meant}
+-- `completed` has the numbers, and a three behind 24 of them.
+use Rattle.std.proofs.Common.{◌≡◌, ℕ, Bool, true, false, ◌||◌, eqb, List, ◌++◌, length, take, replicate, refl}
+use Rattle.std.proofs.Math.Seq.{take-append-add, take-append_seam}
+use borrow.Author.Tests.{eqb-true}
+use Rattle.settings.specs.Settings.{setting_count, all_settings, meant}
+use Rattle.settings.proofs.Meant.{meant_of_24, meant_of_25}
 use Rattle.drive.proofs.calls.completed.Goals as goal
 
-pub bounds-settings-i : goal.bounds-settings-i
-bounds-settings-i c =
-    let few = (filled_meant c.args.numbers.now c.loop-i.invariant.2).0 in
-    omega (arith, c.loop-i-test.true)
-
-pub loop-i-preserved : goal.loop-i-preserved
-loop-i-preserved c =
-    let numbers = c.args.numbers.now in
-    let few = (filled_meant numbers c.loop-i.invariant.2).0 in (
-      omega arith,
-      simp length-set c.loop-i.invariant.1,
-      c.loop-i.invariant.2,
-      rw c.loop-i.invariant.3 (filled_more threes numbers c.loop-i.i (omega arith) (omega arith) refl),
-    )
+filled_is : (numbers : List ℕ) → (eqb (length numbers) setting_count || eqb (length numbers) all_settings) ≡ true
+    → take all_settings (numbers ++ replicate all_settings 3) ≡ meant numbers
+filled_is numbers either = go (eqb (length numbers) setting_count) refl either
+  where
+    go : (few : Bool) → eqb (length numbers) setting_count ≡ few → (few || eqb (length numbers) all_settings) ≡ true
+        → take all_settings (numbers ++ replicate all_settings 3) ≡ meant numbers
+    go true e all =
+        let is = eqb-true (length numbers) setting_count e in
+        rw (meant_of_24 numbers is) (rw is at (take-append-add numbers (replicate all_settings 3) 1))
+    go false e all =
+        let is = eqb-true (length numbers) all_settings all in
+        rw (meant_of_25 numbers is) (rw is at (take-append_seam numbers (replicate all_settings 3)))
 
 pub returns : goal.returns
-returns c =
-    let inv = c.loop-i.invariant in
-    let numbers = c.args.numbers.now in
-    let end : c.loop-i.i ≡ length numbers = omega arith in
-    inv.3 ∙ ap (filled threes numbers) end ∙ (filled_meant numbers inv.2).1
-
-pub loop-i-init : goal.loop-i-init
-loop-i-init c = (omega arith, refl, c.requires, refl)
+returns c = λ either. rw c.filled.ensures (filled_is c.args.numbers.now either)

@@ -1,33 +1,16 @@
--- `verdict` puts the page, which has room for all that is said.
-use Rattle.std.proofs.Common.{◌≡◌, ◌≤◌, length, take, sym, subst, ap, ◌∙◌, rules}
-use lib.Seq.{length-take-le}
-use Rattle.judge.specs.Pages.{blank_page, more}
-use Rattle.judge.specs.Sentences.{said}
-use Rattle.judge.specs.declared.Judge.{Judge}
-use Rattle.judge.specs.declared.sentences.Page.{Page}
-use Rattle.judge.proofs.Pages.{size_within, page_has}
+-- `verdict` is a chain of five writers.
+use Rattle.text.specs.Decimal.{decimal}
+use Rattle.text.proofs.Chains.{first, and_then}
+use Rattle.judge.specs.Sentences.{calls_words, counting, differing, breaking, ending, said}
 use Rattle.judge.proofs.sentences.verdict.Goals as goal
 
--- what the code takes of the page
-module _ (j : Judge) (page : Page) (is : page ≡ more blank_page (said j)) where
-  page_is : length j.expected ≡ 47 → length j.found ≡ 47 → take page.size page.bytes ≡ said j
-  page_is a b = ap (λ (p : Page). take p.size p.bytes) is ∙ page_has j a b
-
-  within : page.size ≤ length page.bytes
-  within = subst (λ (p : Page). p.size ≤ length p.bytes) (sym is) (size_within blank_page (said j))
-
-pub slice_bounds-bytes-end : goal.slice_bounds-bytes-end
-slice_bounds-bytes-end c = within c.args.judge c.say_all-page.result c.say_all-page.ensures
-
-pub slice_bounds-put-end : goal.slice_bounds-put-end
-slice_bounds-put-end c = sym (length-take-le _ _ (within c.args.judge c.say_all-page.result c.say_all-page.ensures))
-
-pub returns-clause-next : goal.returns-clause-next
-returns-clause-next c =
-    let page = page_is c.args.judge c.say_all-page.result c.say_all-page.ensures (search rules) (search rules) in
-    c.put.ensures.next ∙ rw page
-
-pub returns-clause-lent : goal.returns-clause-lent
-returns-clause-lent c =
-    let page = page_is c.args.judge c.say_all-page.result c.say_all-page.ensures (search rules) (search rules) in
-    c.put.ensures.lent ∙ rw page
+pub returns : goal.returns
+unfolding said counting
+returns c =
+    let j = c.args.judge in
+    let heard = first (decimal j.onlooker.past.heard) (c.put_decimal-at.ensures.next, c.put_decimal-at.ensures.lent) in
+    let counted = and_then calls_words heard (c.put-at.ensures.next, c.put-at.ensures.lent) in
+    let compared = and_then (differing j.differs) counted (c.put_differing-at.ensures.place, c.put_differing-at.ensures.out) in
+    let kept = and_then (breaking j.breaks) compared (c.put_breaking-at.ensures.place, c.put_breaking-at.ensures.out) in
+    let all = and_then (ending j.end c.next_number.result) kept (c.put_ending.ensures.place, c.put_ending.ensures.out) in
+    rw (← c.next_number.ensures) (record { next = all.place; lent = all.out })

@@ -1,23 +1,19 @@
--- `put` has copied i bytes at the head of its loop, and a turn copies the next; the byte that ends them stands behind the last.
-use native.Mathlib.Omega.{arith}
-use mathlib.Core.Path.{◌≡◌}
-use lib.ListN.{length, length-set}
+-- `put` copies the bytes to their place, and the byte that ends them stands behind the last.
+use Rattle.std.proofs.Common.{◌≡◌, ℕ, ◌+◌, ◌-◌, ◌≤◌, List, length, refl, ◌∙◌, arith}
+use Rattle.std.proofs.lemmas.Slice.{put_mid-paste}
+use Rattle.std.proofs.lemmas.List.Edits.{sets, sets-eq}
 use lib.Seq.{take_all}
-use borrow.Author.Rules.{rules}
-use Rattle.report.proofs.Runs.{sets_append, one_more}
+use borrow.Rule.Slice.PartMut.{put_mid}
+use Rattle.report.proofs.Runs.{sets_append}
 use Rattle.report.proofs.put.put.Goals as goal
 
-pub loop-i-preserved : goal.loop-i-preserved
-loop-i-preserved c = (
-  search rules,
-  simp length-set c.loop-i.invariant.1,
-  rw c.loop-i.invariant.2
-      (one_more c.args.lent.now c.args.bytes.now c.args.at c.loop-i.i
-      (search rules)),
-)
+copied : (l bytes after : List ℕ) (at : ℕ) → after ≡ bytes → at + length bytes ≤ length l
+    → put_mid at (at + length bytes - at) l after ≡ sets l at bytes
+copied l bytes after at same fits =
+    put_mid-paste at (at + length bytes - at) l after bytes (length bytes) same (omega arith) refl
+    ∙ rw (take_all (length bytes) bytes (omega arith), sets-eq bytes l at fits)
 
 pub returns-clause-lent : goal.returns-clause-lent
 returns-clause-lent c =
     let bytes = c.args.bytes.now in
-    let all : c.loop-i.i ≡ length bytes = omega arith in
-    rw (c.loop-i.invariant.2, take_all c.loop-i.i bytes c.loop-i-test.false, sets_append, all)
+    rw (copied c.args.lent.now bytes c.copy_from_slice.new.self c.args.at c.copy_from_slice.ensures.after (omega arith), sets_append)

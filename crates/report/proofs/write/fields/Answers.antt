@@ -34,6 +34,6 @@ returns c =
     in
     let put-angle = rw (to_z-of_z fits.1) at c.put_signed-at-2.ensures.lent in
     let to-angle = with_field (signed answer.angle) 32 to-position (length-signed _) (c.put_signed-at-2.ensures.next, put-angle) in
-    let put-letter = rw c.letter.ensures at c.put_letter.ensures.lent in
+    let put-letter = rw c.letter-letter.ensures at c.put_letter.ensures.lent in
     let whole = with_field (letter answer.judged ∷ []) 10 to-angle refl (c.put_letter.ensures.next, put-letter) in
     rw (whole.out, in_front lent (line answer) (rw length-line c.requires.line_length_in_bounds), length-line)

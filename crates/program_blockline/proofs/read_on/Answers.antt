@@ -1,6 +1,0 @@
--- `read_on` runs over what it held and what the read brought: the read leaves the bytes in front of its part as they were.
-use Rattle.program_blockline.specs.Rest.{answered}
-use Rattle.program_blockline.proofs.read_on.Goals as goal
-
-pub returns-clause-rest : goal.returns-clause-rest
-returns-clause-rest g c = answered _ _ c.read_behind-piece.ensures.front c.answer.ensures.rest
