@@ -1,5 +1,5 @@
-// What happened, as sentences: a refusal, a load, an exit from FAULT, a start, a stop. Refusals and states are the paper's numbers, as answers
-// have them (`drive` src/answer.rt says why).
+// What happened, as sentences: a refusal, a load, an exit from FAULT, a start, a stop. Refusals and states are the paper's numbers, as
+// answers have them (`drive` src/answer.rt says why).
 use crate::event::Event;
 use crate::sentence::{Exit, Sentence};
 use crate::words::{cycle_word, setting_word, tick_word};
