@@ -49,14 +49,22 @@ impl Hall {
         ensures { result ≡ sampled sensors self pattern offset }
     {
         let fate = judged(sensors, pattern, self.kept);
-        let left = sensors.sector_of(self.kept.unwrap_or(0));
-        let entered = sensors.sector_of(pattern);
+        // A sector is looked up where it is asked for: most samples are the same pattern again.
         let (position, twelfths) = match fate {
-            Fate::First => (self.position, entered.middle),
+            Fate::First => {
+                let entered = sensors.sector_of(pattern);
+                (self.position, entered.middle)
+            }
             // Going clockwise, the sector that is left counts.
-            Fate::Forward => (self.position.wrapping_add(left.width), left.boundary),
+            Fate::Forward => {
+                let left = sensors.sector_of(self.kept.unwrap_or(0));
+                (self.position.wrapping_add(left.width), left.boundary)
+            }
             // Going back, it is the sector that is entered: the same boundary, and as many counts.
-            Fate::Back => (self.position.wrapping_sub(entered.width), entered.boundary),
+            Fate::Back => {
+                let entered = sensors.sector_of(pattern);
+                (self.position.wrapping_sub(entered.width), entered.boundary)
+            }
             Fate::Same => return self.rests(fate, 0, 0, false),
             Fate::Dead => return self.dead_sample(),
             Fate::Stray => return self.stray_sample(),
