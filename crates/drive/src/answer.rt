@@ -142,7 +142,9 @@ pub(crate) fn settle_telling(
     }
 }
 
-// The same of a call that judges no sample.
+// The same of a call that judges no sample. It goes into its callers: called, it is handed two whole drives, each written out to memory
+// and read back at every tick.
+#[inline(always)]
 pub(crate) fn settle(told: Result<(), Refusal>, next: Drive, left: Drive) -> Reply
     ensures { result ≡ settle (verdict_of told) next left }
 {
