@@ -75,8 +75,8 @@ fn line_kept(line: &[u8]) -> [u8; LINE_LENGTH]
 
 impl Judge {
     // The number of the record that comes next.
-    pub(crate) fn next_number(self) -> u64
-        ensures { result ≡ number_of self }
+    pub(crate) fn next_number(&self) -> u64
+        ensures { result ≡ number_of self.now }
     {
         self.onlooker.past.heard.saturating_add(1)
     }
@@ -84,11 +84,11 @@ impl Judge {
     // The first line that differs: this one only where none came before.
     #[tactic(auto, unfolding(crate::specs::Judged::differs_now))]
     fn differs_now(
-        self,
+        &self,
         expected: [u8; LINE_LENGTH],
         found: [u8; LINE_LENGTH],
     ) -> Option<Difference>
-        ensures { result ≡ differs_now self expected found }
+        ensures { result ≡ differs_now self.now expected found }
     {
         // The kit's `same` promises equal bytes; `!=` of arrays promises std's comparison of their elements, and is no plainer here.
         let differs = !same(&expected, &found);
@@ -102,8 +102,8 @@ impl Judge {
 
     // The first entry that breaks the demand: this one only where none came before.
     #[tactic(auto, unfolding(crate::specs::Judged::breaks_now))]
-    fn breaks_now(self, rules: Rules) -> Option<Breach>
-        ensures { result ≡ breaks_now self rules }
+    fn breaks_now(&self, rules: Rules) -> Option<Breach>
+        ensures { result ≡ breaks_now self.now rules }
     {
         let breaks = !kept(rules);
         let number = self.next_number();
@@ -112,73 +112,70 @@ impl Judge {
 
     // A record that the supervisor answers so, with a line that can be read, heard with the board's own answer so.
     #[tactic(auto, unfolding(crate::specs::Judged::read_entry))]
-    fn read_entry(self, reply: Reply, heard: Onlooker, end: Option<End>, line: &[u8]) -> Judge
-        ensures { result ≡ read_entry self reply heard end line.now }
+    fn read_entry(&mut self, reply: Reply, heard: Onlooker, end: Option<End>, line: &[u8])
+        ensures { self.new ≡ read_entry self.old reply heard end line.now }
     {
         let expected = line_for(reply.answer, line.len());
-        Judge {
-            drive: reply.drive,
-            onlooker: heard,
-            differs: self.differs_now(expected, line_kept(line)),
-            breaks: self.breaks_now(heard.rules),
-            end,
-        }
+        let differs = self.differs_now(expected, line_kept(line));
+        let breaks = self.breaks_now(heard.rules);
+        self.drive = reply.drive;
+        self.onlooker = heard;
+        self.differs = differs;
+        self.breaks = breaks;
+        self.end = end;
     }
 
     // A line that cannot be read ends the judgement: what the board answered is not known, and without it nobody can follow the log.
-    fn unread_entry(self, drive: Drive, line: &[u8]) -> Judge
-        ensures { result ≡ unread_entry self drive line.now }
+    fn unread_entry(&mut self, drive: Drive, line: &[u8])
+        ensures { self.new ≡ unread_entry self.old drive line.now }
     {
         let end = if line.is_empty() {
             End::Missing
         } else {
             End::Unreadable
         };
-        Judge {
-            drive,
-            end: Some(end),
-            ..self
-        }
+        self.drive = drive;
+        self.end = Some(end);
     }
 
     // A call, with the line that the board printed.
-    pub(crate) fn call(self, call: Call, line: &[u8]) -> Judge
-        ensures { result ≡ judge_call self (asked call) line.now }
+    pub(crate) fn call(&mut self, call: Call, line: &[u8])
+        ensures { self.new ≡ judge_call self.old (asked call) line.now }
     {
         let reply = self.drive.call(call);
         let Some(shown) = lines::read(line) else {
-            return self.unread_entry(reply.drive, line);
+            self.unread_entry(reply.drive, line);
+            return;
         };
         let heard = self.onlooker.hear(call, answer_of(shown));
-        self.read_entry(reply, heard, None, line)
+        self.read_entry(reply, heard, None, line);
     }
 
     // What is no record makes no call, and the onlooker does not hear of it.
-    pub(crate) fn refuse(self, line: &[u8]) -> Judge
-        ensures { result ≡ judge_refusal self line.now }
+    pub(crate) fn refuse(&mut self, line: &[u8])
+        ensures { self.new ≡ judge_refusal self.old line.now }
     {
         let drive = self.drive;
         if lines::read(line).is_none() {
-            return self.unread_entry(drive, line);
+            self.unread_entry(drive, line);
+            return;
         }
         let refusal = Refusal::Record;
         let answer = answered(drive, refusal.number(), refusal.place());
         let end = Some(End::Refused);
-        self.read_entry(Reply { drive, answer }, self.onlooker, end, line)
+        let heard = self.onlooker;
+        self.read_entry(Reply { drive, answer }, heard, end, line);
     }
 
     // The records are over; so are the lines, or some are left.
-    pub(crate) fn ended_by(self, line: &[u8]) -> Judge
-        ensures { result ≡ ended_by self line.now }
+    pub(crate) fn ended_by(&mut self, line: &[u8])
+        ensures { self.new ≡ ended_by self.old line.now }
     {
         let end = if line.is_empty() {
             End::Over
         } else {
             End::LeftOver
         };
-        Judge {
-            end: Some(end),
-            ..self
-        }
+        self.end = Some(end);
     }
 }

@@ -105,10 +105,11 @@ pub fn run(judge: Judge, records: Arrived, lines: Arrived) -> Ran
         wants: Wants::Turn,
     };
     for _ in records.bytes {
-        ran = ran.onward(records, lines);
+        ran.onward(records, lines);
         if ran.wants != Wants::Turn {
             return ran;
         }
     }
-    ran.onward(records, lines)
+    ran.onward(records, lines);
+    ran
 }

@@ -30,10 +30,10 @@ pub returns-in-Ok-clause-result : goal.returns-in-Ok-clause-result
 returns-in-Ok-clause-result c =
     let line = c.args.line.now in
     let found = c.in-Ok.record in
-    c.told.ensures
-    ∙ ap (λ (j : Judge). told j found.size (length line)) c.call.ensures
-    ∙ followed c.args.records.over c.args.self line c.args.records.bytes.now found
-    (meaning c.args.records.bytes.now (Ok found) (sym c.in-Ok.is ∙ c.read.ensures))
+    rw c.told.ensures
+    (ap (λ (j : Judge). told j found.size (length line)) c.call.ensures
+    ∙ followed c.args.records.over c.args.self.now line c.args.records.bytes.now found
+    (meaning c.args.records.bytes.now (Ok found) (sym c.in-Ok.is ∙ c.read.ensures)))
 
 pub returns-in-Ok-clause-within : goal.returns-in-Ok-clause-within
 returns-in-Ok-clause-within c =
