@@ -36,7 +36,6 @@ EXEMPT = {
     ("docs/ARCHITECTURE.md", "crates/NAME"): "the form of a crate's folder",
     ("docs/ARCHITECTURE.md", "proofs/FUNCTION/Answers.antt"): "the form of a proof's file",
     ("docs/ARCHITECTURE.md", "proofs/FUNCTION/Invariants.antt"): "the form of a proof's file",
-    ("docs/landings/M-105.md", "Judged"): "an Option since the design pass",
 }
 
 

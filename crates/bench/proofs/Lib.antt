@@ -4,6 +4,5 @@ pub mod Lengths
 pub mod Laws
 pub mod Turns
 pub mod Stream
-pub mod Signed
 -- Of the promises themselves.
 pub mod OneReply

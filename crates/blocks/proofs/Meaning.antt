@@ -8,7 +8,7 @@ use Rattle.std.specs.Prelude.{Result, Ok, Err}
 use Rattle.images.specs.Writes.{Block}
 use Rattle.streams.specs.Run.{Front, end, unknown, short, whole}
 use Rattle.streams.proofs.Grown.{no_byte, no_record, a_part, a_record}
-use Rattle.blocks.specs.Table.{Record, reads, chooses, writes, most_bytes, head_size, size_of, front, asked, found}
+use Rattle.blocks.specs.Table.{Record, reads, chooses, writes, most_bytes, head_size, size_of, blocks_of, front, asked, found}
 use Rattle.blocks.specs.declared.find.Record.{Record as Read}
 use Rattle.blocks.specs.declared.find.Call.{Call}
 use Rattle.blocks.specs.declared.find.Call.TheVariants.{Reads, Chooses, Writes}
@@ -52,14 +52,21 @@ missing bytes why e = by (front bytes) refl e
 -- of R: an image behind the head
 pub record Imaged (bytes : List ℕ) (block size : ℕ) : Type 0 where
   pub is : front bytes ≡ whole (reads block (take (size - head_size) (drop head_size bytes)))
+  pub long : size_of (reads block (take (size - head_size) (drop head_size bytes))) ≡ size
+  pub few : size - head_size ≤ most_bytes
   pub some : head_size ≤ size
   pub inside : size ≤ length bytes
 
--- of W: not too many bytes are lent
+-- of W: fifteen blocks, in a record of so many bytes, and not too many bytes are lent
+pub record Handed (bytes : List ℕ) (lent holds size : ℕ) : Type 0 where
+  pub is : front bytes ≡ whole (writes lent holds (blocks_of bytes 15))
+  pub long : size_of (writes lent holds (blocks_of bytes 15)) ≡ size
+  pub few : lent ≤ most_bytes
+
 abbrev pub Meaning : List ℕ → Call → ℕ → Type 0
 Meaning bytes (Reads block) size = Imaged bytes block size
-Meaning bytes (Chooses count) size = Unit {0}
-Meaning bytes (Writes lent holds blocks) size = lent ≤ most_bytes
+Meaning bytes (Chooses count) size = front bytes ≡ whole (chooses count)
+Meaning bytes (Writes lent holds blocks) size = Handed bytes lent holds size
 
 pub meaning : (bytes : List ℕ) (read : Read) → Ok read ≡ found (front bytes) → Meaning bytes read.call read.size
 meaning bytes read e = by (front bytes) (grown bytes []) refl e
@@ -73,16 +80,30 @@ meaning bytes read e = by (front bytes) (grown bytes []) refl e
         let same : read ≡ record { call = Reads block; size = head_size + length image } = cc in
         let part : head_size + length image - head_size ≡ length image = omega arith in
         rw same
-        (record { is = rw part (is ∙ ap (λ (l : List ℕ). whole (reads block l)) off); some = omega arith; inside = all })
+        (record {
+          is = rw part (is ∙ ap (λ (l : List ℕ). whole (reads block l)) off);
+          long = rw part (ap (λ (l : List ℕ). head_size + length l) (sym off));
+          few = rw part few;
+          some = omega arith;
+          inside = all;
+        })
     by (whole _) (a_record (chooses count) _ _) is said =
-        let same : read ≡ record { call = Chooses count; size = size_of (chooses count) } = cc in rw same tt
+        let same : read ≡ record { call = Chooses count; size = size_of (chooses count) } = cc in rw same is
     by (whole _) (a_record (writes lent holds blocks) (off, few) _) is said =
         let same : read ≡ record { call = asked (writes lent holds blocks); size = size_of (writes lent holds blocks) } = cc in
-        rw same few
+        rw same
+        (record {
+          is = is ∙ ap (λ (l : _). whole (writes lent holds l)) off;
+          long = ap (λ (l : _). size_of (writes lent holds l)) (sym off);
+          few = few;
+        })
 
 module _ (bytes : List ℕ) (read : Read) (known : Ok read ≡ found (front bytes)) where
   imaged : {block : ℕ} → read.call ≡ Reads block → Imaged bytes block read.size
   imaged is = rw is at (meaning bytes read known)
+
+  handed : {lent holds : ℕ} {blocks : List Block} → read.call ≡ Writes lent holds blocks → Handed bytes lent holds read.size
+  handed is = rw is at (meaning bytes read known)
 
   pub has_head : (block : ℕ) → read.call ≡ Reads block → head_size ≤ read.size
   has_head block is = (imaged is).some
@@ -95,6 +116,6 @@ module _ (bytes : List ℕ) (read : Read) (known : Ok read ≡ found (front byte
   image_read block is = (imaged is).is
 
   pub few_lent : (lent holds : ℕ) (blocks : List Block) → read.call ≡ Writes lent holds blocks → lent ≤ most_bytes
-  few_lent lent holds blocks is = rw is at (meaning bytes read known)
+  few_lent lent holds blocks is = (handed is).few
 
 pub ruleset meant = (has_head, image_inside, image_read, few_lent)

@@ -39,6 +39,9 @@ unnamed (Some named) right new none = cc
 unnamed None true new none = (refl, tt)
 unnamed None false new none = cc
 
+pub numbered : (j : Judge) → number_of j ≡ 0 → ⊥
+numbered j none = omega arith
+
 -- what an entry leaves, field by field
 module _ (j : Judge) (said : Reply) (heard : Onlooker) (end : Option End) (line : List ℕ) where
   abbrev left : Judge

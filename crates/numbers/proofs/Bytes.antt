@@ -47,6 +47,15 @@ numbers_take (suc count) at n bytes room =
       numbers_take count (at + 2) n bytes (omega arith),
     )
 
+-- the first of more numbers
+pub take-numbers : (count more at : ℕ) (bytes : List ℕ) → count ≤ more
+    → take count (numbers more at bytes) ≡ numbers count at bytes
+unfolding numbers
+take-numbers zero more at bytes fewer = refl
+take-numbers (suc count) zero at bytes fewer = absurd (omega arith)
+take-numbers (suc count) (suc more) at bytes fewer =
+    ap (λ (l : List ℕ). number at bytes ∷ l) (take-numbers count more (at + 2) bytes (omega arith))
+
 -- past the end stands 0, so a place there may as well be the last one that a width can tell
 pub number_capped : (at most : ℕ) (bytes : List ℕ) → length bytes ≤ most → number (min at most) bytes ≡ number at bytes
 number_capped at most bytes short =

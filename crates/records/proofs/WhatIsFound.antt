@@ -3,7 +3,7 @@ use Rattle.std.specs.Prelude.{Result, Ok, Err}
 use mathlib.Core.Path.{◌≡◌, refl, sym, subst}
 use mathlib.Core.List.{List, []}
 use mathlib.Core.Bool.{true, ◌||◌}
-use Prim.Native.Nat.{ℕ}
+use Prim.Native.Nat.{ℕ, ◌≤◌}
 use lib.Dec.{eqb}
 use lib.ListN.{length}
 use Rattle.settings.specs.Settings.{setting_count, all_settings, meant}
@@ -16,7 +16,7 @@ use Rattle.records.specs.Front.{size_of, front, found}
 use Rattle.records.specs.declared.Record.{Record}
 use Rattle.streams.specs.declared.Missing.{Missing}
 use Rattle.streams.specs.declared.Missing.TheVariants.{End, Unknown, Short}
-use Rattle.records.proofs.MoreBytes.{Grown, grown}
+use Rattle.records.proofs.MoreBytes.{ReadOff, Grown, grown}
 
 -- a call, and the one that it means: a load's 24 numbers mean 25
 pub data Means : Call → Call → Type 0 where
@@ -29,12 +29,14 @@ pub replied_alike : (d : Drive) {r s : Call} → Means r s → reply d s ≡ rep
 replied_alike d (all_25 numbers either) = same_load d numbers either
 replied_alike d (itself r) = refl
 
--- a whole record
+-- a whole record, read off the bytes, which has them all: a load's numbers are those of the bytes, and their count is known
 pub record Whole (bytes : List ℕ) (found : Record) : Type 0 where
   pub call : Call
   pub stands : front bytes ≡ whole call
   pub means : Means call (asked found.call)
   pub size : found.size ≡ size_of call
+  pub off : ReadOff bytes call
+  pub inside : found.size ≤ length bytes
 
 abbrev pub Meaning : List ℕ → Result Record Missing → Type 0
 Meaning bytes (Err End) = front bytes ≡ end
@@ -50,9 +52,9 @@ meaning bytes said e = subst (Meaning bytes) (sym e) (go (front bytes) (grown by
     go unknown no_record is = is
     go short (a_part _) is = is
     go (whole _) (a_record (loads numbers) (known, off) all) is =
-        record { call = loads numbers; stands = is; means = all_25 numbers known; size = refl }
-    go (whole _) (a_record (cycles fields) _ _) is =
-        record { call = cycles fields; stands = is; means = itself (cycles fields); size = refl }
-    go (whole _) (a_record (ticks fields) _ _) is =
-        record { call = ticks fields; stands = is; means = itself (ticks fields); size = refl }
+        record { call = loads numbers; stands = is; means = all_25 numbers known; size = refl; off = (known, off); inside = all }
+    go (whole _) (a_record (cycles fields) off all) is =
+        record { call = cycles fields; stands = is; means = itself (cycles fields); size = refl; off = off; inside = all }
+    go (whole _) (a_record (ticks fields) off all) is =
+        record { call = ticks fields; stands = is; means = itself (ticks fields); size = refl; off = off; inside = all }
     go (whole _) (a_record (block_loads image block) none _) is = absurd none

@@ -113,6 +113,7 @@ module _
     pub record Stepped (one : Ran S) (left : List ℕ) : Type 0 where
       pub filled_within : written + one.written ≤ length lent
       pub taken_within : taken + one.taken ≤ length input
+      pub length-kept : length (back written output left) ≡ length lent
       pub again : (one.taken ≡ 0 → ⊥)
           → Ongoing p input closed lent first (back written output left) (taken + one.taken) (written + one.written) one.state
       pub answer : one.taken ≡ 0 → after one ≡ ran_of (everything p input closed lent first)
@@ -133,6 +134,7 @@ module _
         (record {
           filled_within = omega (arith, its_first.fits, g.room);
           taken_within = omega (arith, its_first.within, length-drop taken input, g.within);
+          length-kept = rw (out, length-append, counted, length-drop) (omega (arith, its_first.fits, g.room));
           again = λ some. goes_on some out;
           answer = λ none. rw (ends none, counted);
           leaves = λ none. out ∙ rw (ends none, counted);

@@ -7,7 +7,7 @@ use mathlib.Core.Bool.{Bool, true, false}
 use mathlib.Core.Path.{◌≡◌, refl, sym, ◌∙◌}
 use mathlib.Core.List.{List, append-nil}
 use lib.Dec.{ltb}
-use lib.IntN.{ℤ, pos, negsuc}
+use lib.IntN.{ℤ, pos, negsuc, nat_abs}
 use lib.ListN.{length, take, length-append}
 use borrow.Author.Tests.{lt-ltb, le-ltb, ltb-true, ltb-false}
 use Rattle.io.specs.Digits.{hex_digit_ascii, last_digits, IsDigitCount}
@@ -56,7 +56,34 @@ pub narrowest : (n : ℕ) → column 0 n ≡ decimal n
 unfolding column
 narrowest n = let none : 0 - length (decimal n) ≡ 0 = omega arith in rw none (append-nil (decimal n))
 
--- how long a decimal number can be
+-- how long a decimal number can be, by what it is below
+module _ (most : ℕ) (shorter : (k n : ℕ) → 0 < k → n < 10 ^ k → length (decimals most n) ≤ k) where
+  one_longer : (k n : ℕ) (test : Bool) → ltb n 10 ≡ test → n < 10 ^ suc k → length (decimals (suc most) n) ≤ suc k
+  unfolding decimals
+  one_longer k n true e small = rw e (omega arith)
+  one_longer zero n false e small = absurd (omega (arith, ltb-false n 10 e))
+  one_longer (suc k) n false e small =
+      let ten : 0 < 10 = omega arith in
+      let high : n < 10 ^ suc k * 10 = rw (pow-suc 10 (suc k)) at small in
+      let before = shorter (suc k) (n / 10) (omega arith) ((div-lt_iff_lt-mul ten).1 high) in
+      rw (e, length-append) (omega arith)
+
+length-decimals : (most k n : ℕ) → 0 < k → n < 10 ^ k → length (decimals most n) ≤ k
+unfolding decimals
+length-decimals zero k n some small = omega arith
+length-decimals (suc most) zero n some small = absurd (not-suc-le-zero some)
+length-decimals (suc most) (suc k) n some small = one_longer most (length-decimals most) k n (ltb n 10) refl small
+
+pub length-decimal : (k n : ℕ) → 0 < k → n < 10 ^ k → length (decimal n) ≤ k
+unfolding decimal
+length-decimal = length-decimals 20
+
+pub length-signed : (k : ℕ) (z : ℤ) → 0 < k → nat_abs z < 10 ^ k → length (signed_decimal z) ≤ suc k
+unfolding signed_decimal
+length-signed k (pos n) some small = omega (arith, length-decimal k n some small)
+length-signed k (negsuc n) some small = omega (arith, length-decimal k (suc n) some small)
+
+-- and whatever the number is
 module _ (most : ℕ) (shorter : (n : ℕ) → length (decimals most n) ≤ most) where
   one_more : (n : ℕ) (test : Bool) → ltb n 10 ≡ test → length (decimals (suc most) n) ≤ suc most
   unfolding decimals

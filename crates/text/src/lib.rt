@@ -31,7 +31,7 @@ pub fn put_decimal(lent: &mut [u8], at: usize, number: u64) -> usize
 }
 
 // Puts a number in decimal, a negative one with a minus before it.
-#[tactic(auto, using(crate::proofs::Chains::chained), unfolding(crate::specs::Decimal::signed_decimal))]
+#[tactic(auto, using(crate::proofs::Signed::chained_signs))]
 pub fn put_signed(lent: &mut [u8], at: usize, number: i16) -> usize
     ensures next { result ≡ behind at (signed_decimal number) lent.old }
     ensures lent { lent.new ≡ written at (signed_decimal number) lent.old }

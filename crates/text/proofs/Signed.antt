@@ -6,6 +6,7 @@ use lib.IntN.{ℤ, pos, negsuc, nat_abs}
 use lib.Signed.{lt_z}
 use borrow.Author.Tests.{ltb-true}
 use Rattle.text.specs.Decimal.{decimal, signed_decimal}
+use Rattle.text.proofs.Chains.{behind_behind, written_written}
 
 below : (z : ℤ) → lt_z z (pos 0) ≡ true → (code "-" ∷ []) ++ decimal (nat_abs z) ≡ signed_decimal z
 unfolding signed_decimal
@@ -24,3 +25,6 @@ below_zero z fits e = rw (to_z-of_z fits) (below z (rw (to_z-of_z fits) at e))
 pub at_least_zero : (z : ℤ) → FitsSigned w16 z → lt_z (to_z w16 (of_z w16 z)) (pos 0) ≡ false
     → decimal (nat_abs (to_z w16 (of_z w16 z))) ≡ signed_decimal z
 at_least_zero z fits e = rw (to_z-of_z fits) (above z (rw (to_z-of_z fits) at e))
+
+-- what joins a minus and the digits behind it
+pub ruleset chained_signs = (behind_behind, written_written, below_zero, at_least_zero)
