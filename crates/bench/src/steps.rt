@@ -8,14 +8,14 @@ ghost use Rattle.bench.specs.Table.{Record, imaged_size};
 ghost use Rattle.bench.specs.Line.{line_room, motor_line};
 ghost use Rattle.bench.specs.Benchline.{benchline};
 
-use crate::LINE_ROOM;
 use crate::find::{Found, find, imaged_size, numbered_size};
 use crate::line::{motor_line, refusal_line};
+use crate::{LINE_ROOM, run};
 use drive::Drive;
 use drive::answer::Reply;
 use numbers::numbers_at;
 use records::Missing;
-use streams::{Ran, Records};
+use streams::{Ran, Records, Runnable};
 
 // The reply to a load of so many numbers, behind the first two bytes of the record.
 fn loaded(drive: Drive, bytes: &[u8], count: u8) -> Reply
@@ -102,5 +102,11 @@ impl Records for Benchline {
                 }
             }
         }
+    }
+}
+
+impl Runnable for Benchline {
+    fn run(drive: Drive, input: &[u8], closed: bool, output: &mut [u8]) -> Ran<Drive> {
+        run(drive, input, closed, output)
     }
 }

@@ -2,8 +2,9 @@
 ghost use Rattle.blocks.specs.Table.{Record};
 ghost use Rattle.blocks.specs.Blockline.{blockline};
 
+use crate::run;
 use crate::steps::step;
-use streams::{Ran, Records};
+use streams::{Ran, Records, Runnable};
 
 pub struct Blockline;
 
@@ -16,5 +17,11 @@ impl Records for Blockline {
 
     fn step(_state: (), input: &[u8], closed: bool, output: &mut [u8]) -> Ran<()> {
         step(input, closed, output)
+    }
+}
+
+impl Runnable for Blockline {
+    fn run(_state: (), input: &[u8], closed: bool, output: &mut [u8]) -> Ran<()> {
+        run(input, closed, output)
     }
 }

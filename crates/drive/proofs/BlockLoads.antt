@@ -1,14 +1,12 @@
 -- The block load by what the reader says: of a block that is found it is the load of its numbers, but for what a refusal leaves; else the
 -- reader's own refusal.
-use Rattle.std.proofs.Common.{◌≡◌, ℕ, ◌/◌, min, Bool, true, false, cond, ◌||◌, T, eqb, List, ◌++◌, length, drop, replicate, ne_eqb}
-use Rattle.std.proofs.Common.{append-nil, refl, sym, ◌∙◌, Result, Ok, Err, is_err}
+use Rattle.std.proofs.Common.{◌≡◌, ℕ, ◌/◌, ◌≤◌, true, false, cond, ◌||◌, T, eqb, List, length, take, ne_eqb, arith, eqb→eq}
+use Rattle.std.proofs.Common.{refl, Result, Ok, Err, is_err}
 use mathlib.Core.Path.{subst}
-use borrow.Author.Tests.{eqb-true}
 use Rattle.numbers.specs.Bytes.{numbers}
-use Rattle.numbers.proofs.Bytes.{length-numbers}
+use Rattle.numbers.proofs.Tests.{or_cases}
 use Rattle.states.specs.States.{is}
 use Rattle.settings.specs.Settings.{setting_count, all_settings, meant}
-use Rattle.settings.proofs.Meant.{meant_of_24, meant_of_25}
 use Rattle.verdicts.specs.Table.{verdict, verdict_of}
 use Rattle.verdicts.specs.declared.Refusal.{Refusal}
 use Rattle.verdicts.proofs.OneToOne.{accepts}
@@ -42,16 +40,20 @@ pub counts : (image : List ℕ) (block : ℕ) → (verdict (read_rows fifteen im
 unfolding found_of
 counts image block none = found_counts fifteen image block none
 
--- and read with threes behind them they are the settings that they mean
-pub settings_are : (count : ℕ) (body : List ℕ) → (eqb count setting_count || eqb count all_settings) ≡ true
-    → numbers (min count 25) 0 body ++ drop (min count 25) (replicate 25 3) ≡ meant (numbers count 0 body)
-settings_are count body either = go (eqb count setting_count) refl either
-  where
-    go : (few : Bool) → eqb count setting_count ≡ few → (few || eqb count all_settings) ≡ true
-        → numbers (min count 25) 0 body ++ drop (min count 25) (replicate 25 3) ≡ meant (numbers count 0 body)
-    go true e all = rw (eqb-true count setting_count e) (sym (meant_of_24 (numbers 24 0 body) (length-numbers 24 0 body)))
-    go false e all =
-        rw (eqb-true count all_settings all) (append-nil _ ∙ sym (meant_of_25 (numbers 25 0 body) (length-numbers 25 0 body)))
+-- they are the first of the 25 that an array has room for
+module _ (count : ℕ) (either : (eqb count setting_count || eqb count all_settings) ≡ true) where
+  pub within_25 : count ≤ 25
+  within_25 =
+      or_cases (eqb count setting_count) (eqb count all_settings) (rw either tt)
+      (λ few. omega (arith, eqb→eq count setting_count few))
+      (λ all. omega (arith, eqb→eq count all_settings all))
+
+  pub numbers_are : (body : List ℕ) → take count (numbers 25 0 body) ≡ numbers count 0 body
+  unfolding numbers
+  numbers_are body =
+      or_cases (eqb count setting_count) (eqb count all_settings) (rw either tt)
+      (λ few. rw (eqb→eq count setting_count few) refl)
+      (λ all. rw (eqb→eq count all_settings all) refl)
 
 -- what the reader says of a block, by the result that it gives back
 pub refused : (told : Result (Unit {0}) Refusal) → is_err told ≡ true → ((verdict_of told).number ≡ 0 → ⊥)

@@ -5,9 +5,8 @@ ghost use Rattle.drive.specs.Blocks.{marked, block_load};
 use crate::Drive;
 use crate::answer::{Reply, settle};
 use crate::causes::BLOCK_REFUSED;
-use images::reader::{body, verdict};
-use numbers::{numbers_at, pick};
-use settings::{ALL_SETTINGS, USUAL_SENSORS};
+use images::reader::{body, numbers_of, verdict};
+use numbers::pick;
 use states::State;
 
 impl Drive {
@@ -30,8 +29,8 @@ impl Drive {
             return settle(found, self, self);
         }
         let body = body(image, block);
-        let settings: [u16; ALL_SETTINGS] = numbers_at(body, 0, body.len() / 2, USUAL_SENSORS);
+        let numbers = numbers_of(body);
         let left = pick(self.state == State::Idle, self.marked(), self);
-        self.load_or(&settings, left)
+        self.load_or(&numbers[..body.len() / 2], left)
     }
 }

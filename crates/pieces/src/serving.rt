@@ -4,7 +4,7 @@ ghost use Rattle.pieces.specs.Turn.{Rest, ReadOn, Served};
 
 use crate::{move_to_front, read_behind, write_out};
 use std::io::Input;
-use streams::{Records, run};
+use streams::Runnable;
 
 // What the two streams are called where a failure is told.
 #[derive(Clone, Copy)]
@@ -23,7 +23,7 @@ pub struct Held<S> {
 }
 
 // Answers the first `filled` bytes of the buffer, writes the lines, and moves what is left to the front.
-fn answer<P: Records>(
+fn answer<P: Runnable>(
     rt: &(impl Print + Eprint),
     state: P::State,
     input: &mut [u8],
@@ -36,7 +36,7 @@ fn answer<P: Records>(
     ensures within { result.count ≤ length input.old }
     ensures rest { Rest P.program closed (length output.old) filled input.old input.new state result }
 {
-    let ran = run::<P>(state, &input[..filled], closed, output);
+    let ran = P::run(state, &input[..filled], closed, output);
     let is_written = write_out(rt, &output[..ran.written], name);
     Held {
         state: ran.state,
@@ -47,7 +47,7 @@ fn answer<P: Records>(
 
 // Reads once behind the bytes that are held. A read that fails ends the program; one of no bytes is the end of the input.
 // It may be called only where there is to be a next read, so no loop around it goes on after a refusal.
-fn read_on<P: Records>(
+fn read_on<P: Runnable>(
     rt: &(impl Input + Print + Eprint),
     held: Held<P::State>,
     input: &mut [u8],
@@ -78,7 +78,7 @@ fn read_on<P: Records>(
 
 // Answers the records of standard input on standard output, from this state on, until a refusal or the end of the input, and tells what
 // it holds then. A proved loop has to end, and nothing says that the input does: the reads are counted to a number that no run uses up.
-pub fn serve<P: Records>(
+pub fn serve<P: Runnable>(
     rt: &(impl Input + Print + Eprint),
     state: P::State,
     input: &mut [u8],

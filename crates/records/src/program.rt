@@ -3,8 +3,9 @@ ghost use Rattle.drive.specs.AnyCall.{Call};
 ghost use Rattle.records.specs.Run.{shiftline};
 
 use crate::answers::step;
+use crate::run;
 use drive::Drive;
-use streams::{Ran, Records};
+use streams::{Ran, Records, Runnable};
 
 pub struct Shiftline;
 
@@ -17,5 +18,11 @@ impl Records for Shiftline {
 
     fn step(drive: Drive, input: &[u8], closed: bool, output: &mut [u8]) -> Ran<Drive> {
         step(drive, input, closed, output)
+    }
+}
+
+impl Runnable for Shiftline {
+    fn run(drive: Drive, input: &[u8], closed: bool, output: &mut [u8]) -> Ran<Drive> {
+        run(drive, input, closed, output)
     }
 }

@@ -54,6 +54,16 @@ pub trait Records {
         ensures lawful { Lawful program };
 }
 
+// Records with the run over them that a program calls: each crate of records gives its own `run`. A trait beside `Records`, since that
+// run is the one below, at the records: as a method of `Records` it would be called by what it calls.
+pub trait Runnable: Records {
+    fn run(state: Self::State, input: &[u8], closed: bool, output: &mut [u8]) -> Ran<Self::State>
+        ensures result { result ≡ ran_of (run Self.program closed (length output.old) input.now state) }
+        ensures lent { output.new
+            ≡ output_after (run Self.program closed (length output.old) input.now state) output.old }
+        ensures within { (result.taken ≤ length input.now) × (result.written ≤ length output.old) };
+}
+
 // Takes whole records from the front of the input and writes their lines one after the other, until the input holds no whole record
 // or the output has no room for a line. `closed` says that no more input will come. How many steps there are only the steps tell.
 pub fn run<P: Records>(
