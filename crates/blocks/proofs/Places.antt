@@ -51,10 +51,9 @@ one_bad bytes k (suc n) below bad =
     (eq-or-lt_of_le (omega arith))
 
 -- so the code may stop at the first of them
-pub stopped : (bytes : List ℕ) (k place : ℕ) → k < 15 → place ≡ place_of bytes k → 1 < byte place bytes
-    → ◌≡◌ {A = Result (List Block × ℕ) Missing} (Err Unknown)
-    (cond (bad_kind bytes 15) (Err Unknown) (Ok (map handed (blocks_of bytes 15), place_of bytes 15)))
-stopped bytes k place below is bad = rw (one_bad bytes k 15 below (rw is at bad))
+pub stopped : {A : Type 0} (value : A) (bytes : List ℕ) (k place : ℕ) → k < 15 → place ≡ place_of bytes k → 1 < byte place bytes
+    → ◌≡◌ {A = Result A Missing} (Err Unknown) (cond (bad_kind bytes 15) (Err Unknown) (Ok value))
+stopped value bytes k place below is bad = rw (one_bad bytes k 15 below (rw is at bad))
 
 -- the bytes `b` come behind `a`
 module _ (a b : List ℕ) where

@@ -4,7 +4,7 @@ ghost use Rattle.numbers.specs.Bytes.{number};
 ghost use Rattle.streams.specs.declared.Missing.TheVariants.{Unknown, Short};
 ghost use Rattle.blocks.specs.Table.{most_bytes, reads_front, chooses_front, writes_front, front, found};
 
-use crate::handed::blocks_of;
+use crate::handed::{blocks_of, end_of};
 use crate::{CHOOSES_SIZE, HEAD_SIZE, MOST_BYTES};
 use images::{BLOCKS, Block};
 use numbers::{byte_at, number_at};
@@ -77,9 +77,9 @@ fn writes_front(bytes: &[u8]) -> Result<Record, Missing>
 {
     enough(bytes, HEAD_SIZE)?;
     let lent = few_at(bytes, 1)?;
-    let (blocks, size) = blocks_of(bytes)?;
+    let size = end_of(bytes)?;
     enough(bytes, size)?;
-    let call = Call::Writes(lent, byte_at(bytes, 3), blocks);
+    let call = Call::Writes(lent, byte_at(bytes, 3), blocks_of(bytes));
     Ok(Record { call, size })
 }
 

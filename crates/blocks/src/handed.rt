@@ -28,21 +28,31 @@ fn block_at(bytes: &[u8], place: usize) -> Block
     (byte_at(bytes, place) == FILLED).then_some(Filled { count, numbers })
 }
 
-// All of them, and where they end, unless the kind of one is bad.
-#[tactic(auto, unfolding(crate::specs::Table::place_of, crate::specs::Table::bad_kind, crate::specs::Table::blocks_of))]
-pub(crate) fn blocks_of(bytes: &[u8]) -> Result<([Block; BLOCKS], usize), Missing>
-    ensures { result
-        ≡ cond (bad_kind bytes.now 15) (Err Unknown)
-        (Ok (map handed (blocks_of bytes.now 15), place_of bytes.now 15)) }
+// Where they end, unless the kind of one is bad: a part of a record is only walked over.
+#[tactic(auto, unfolding(crate::specs::Table::place_of, crate::specs::Table::bad_kind))]
+pub(crate) fn end_of(bytes: &[u8]) -> Result<usize, Missing>
+    ensures { result ≡ cond (bad_kind bytes.now 15) (Err Unknown) (Ok (place_of bytes.now 15)) }
+{
+    let mut place = HEAD_SIZE;
+    for _ in 0..BLOCKS {
+        if FILLED < byte_at(bytes, place) {
+            return Err(Missing::Unknown);
+        }
+        place += block_size(byte_at(bytes, place + 1));
+    }
+    Ok(place)
+}
+
+// All of them.
+#[tactic(auto, unfolding(crate::specs::Table::place_of, crate::specs::Table::blocks_of))]
+pub(crate) fn blocks_of(bytes: &[u8]) -> [Block; BLOCKS]
+    ensures { result ≡ map handed (blocks_of bytes.now 15) }
 {
     let mut blocks = [None; BLOCKS];
     let mut place = HEAD_SIZE;
     for block in &mut blocks {
-        if FILLED < byte_at(bytes, place) {
-            return Err(Missing::Unknown);
-        }
         *block = block_at(bytes, place);
         place += block_size(byte_at(bytes, place + 1));
     }
-    Ok((blocks, place))
+    blocks
 }

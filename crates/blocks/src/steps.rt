@@ -21,8 +21,8 @@ fn image(bytes: &[u8], size: usize) -> &[u8]
 
 // The line of the record that stands at the front of the bytes.
 #[tactic(auto, using(crate::proofs::Meaning::meant))]
-fn line(asked: Record, bytes: &[u8], output: &mut [u8]) -> usize
-    requires { Ok asked ≡ found (front bytes.now) }
+fn line(asked: &Record, bytes: &[u8], output: &mut [u8]) -> usize
+    requires { Ok asked.now ≡ found (front bytes.now) }
     ensures { Puts 0 (line_at (front bytes.now)) output.old result output.new }
 {
     match asked.call {
@@ -60,7 +60,7 @@ pub(crate) fn step(bytes: &[u8], closed: bool, output: &mut [u8]) -> Ran<()>
     }
     match find(bytes) {
         Ok(asked) => {
-            let written = line(asked, bytes, output);
+            let written = line(&asked, bytes, output);
             Ran {
                 state: (),
                 taken: asked.size,

@@ -15,7 +15,9 @@ pub fn put(lent: &mut [u8], at: usize, bytes: &[u8]) -> usize
     ensures next { result ≡ behind at bytes.now lent.old }
     ensures lent { lent.new ≡ written at bytes.now lent.old }
 {
-    let at = at.min(lent.len());
+    if lent.len() <= at {
+        return lent.len();
+    }
     let count = bytes.len().min(lent.len() - at);
     lent[at..at + count].copy_from_slice(&bytes[..count]);
     at + count
