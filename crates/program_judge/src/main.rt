@@ -4,7 +4,7 @@
 #![tactic(auto)]
 
 ghost use Rattle.std.specs.Prelude.{◌≡◌, ◌+◌, ◌^◌, ◌≤◌, ◌<◌, length, IfSome};
-ghost use Rattle.program_judge.specs.Rest.{Left, Rest};
+ghost use Rattle.program_judge.specs.Rest.{Grown, Kept, Left, Rest};
 
 use judge::sentences::{VERDICT_SIZE, verdict};
 use judge::{Arrived, Judge, Wants, run};
@@ -49,7 +49,8 @@ impl Stream {
         name: &[u8],
     ) -> Option<Stream>
         requires { self.held ≤ length bytes.old }
-        ensures { IfSome result (λ next. next.held ≤ length bytes.old) }
+        ensures within { IfSome result (λ next. next.held ≤ length bytes.old) }
+        ensures grown { IfSome result (λ next. Grown self next) }
     {
         let brought = from
             .read(&mut bytes[self.held..])
@@ -61,7 +62,8 @@ impl Stream {
     // With so many bytes more behind those that are held.
     fn grown(self, brought: usize) -> Stream
         requires { self.held + brought < 2 ^ 64 }
-        ensures { result.held ≡ self.held + brought }
+        ensures held { result.held ≡ self.held + brought }
+        ensures grown { Grown self result }
     {
         Stream {
             held: self.held + brought,
@@ -77,6 +79,38 @@ struct Held {
     records: Stream,
     lines: Stream,
     wants: Wants,
+}
+
+impl Held {
+    // Reads records once behind those that are held; none where the read fails.
+    fn read_records(self, rt: &(impl Input + Eprint), input: &mut [u8]) -> Option<Held>
+        requires { self.records.held ≤ length input.old }
+        ensures within { IfSome result (λ next. next.records.held ≤ length input.old) }
+        ensures kept { IfSome result (λ next. Kept self next × (next.lines ≡ self.lines)) }
+        ensures grown { IfSome result (λ next. Grown self.records next.records) }
+    {
+        let brought = read_behind(rt, input, self.records.held, b"why: standard input")?;
+        Some(Held {
+            records: self.records.grown(brought),
+            ..self
+        })
+    }
+
+    // The same of the lines.
+    fn read_lines(self, rt: &impl Eprint, from: &mut impl Read, lines: &mut [u8]) -> Option<Held>
+        requires { self.lines.held ≤ length lines.old }
+        ensures within { IfSome result (λ next. next.lines.held ≤ length lines.old) }
+        ensures kept { IfSome result (λ next. Kept self next × (next.records ≡ self.records)) }
+        ensures grown { IfSome result (λ next. Grown self.lines next.lines) }
+    {
+        let read = self
+            .lines
+            .read_on(rt, from, lines, b"why: the board's lines")?;
+        Some(Held {
+            lines: read,
+            ..self
+        })
+    }
 }
 
 // Judges what is held, and moves what is left to the front of each buffer.
@@ -124,16 +158,8 @@ fn serve(
         held = judged(held, input, lines);
         match held.wants {
             Wants::Turn => {}
-            Wants::Records => {
-                let count = held.records.held;
-                let brought = read_behind(rt, input, count, b"why: standard input")?;
-                held.records = held.records.grown(brought);
-            }
-            Wants::Lines => {
-                held.lines = held
-                    .lines
-                    .read_on(rt, from, lines, b"why: the board's lines")?;
-            }
+            Wants::Records => held = held.read_records(rt, input)?,
+            Wants::Lines => held = held.read_lines(rt, from, lines)?,
             Wants::Nothing => return Some(held.judge),
         }
     }
