@@ -3,7 +3,8 @@
 // judge has to say.
 #![tactic(auto)]
 
-ghost use Rattle.std.specs.Prelude.{◌≡◌, ◌+◌, ◌^◌, ◌≤◌, ◌<◌, length, IfSome};
+ghost use Rattle.std.specs.Prelude.{◌≡◌, ◌+◌, ◌^◌, ◌≤◌, ◌<◌, length, take, IfSome};
+ghost use Rattle.judge.specs.Sentences.{said, verdict_size};
 ghost use Rattle.program_judge.specs.Rest.{Grown, Kept, Left, Rest};
 
 use judge::sentences::{VERDICT_SIZE, verdict};
@@ -186,9 +187,18 @@ fn lines_from<R: Env + Files + Eprint>(rt: &R) -> Option<R::File> {
     }
 }
 
+// Puts all that the judge has to say into bytes that have room for it.
+fn put_verdict(judge: Judge, output: &mut [u8]) -> usize
+    requires { length output.old ≡ verdict_size }
+    ensures within { result ≤ length output.old }
+    ensures all { take result output.new ≡ said judge }
+{
+    verdict(judge, output)
+}
+
 fn tell(rt: &(impl Print + Eprint), judge: Judge) {
     let mut output = [0; VERDICT_SIZE];
-    let said = verdict(judge, &mut output);
+    let said = put_verdict(judge, &mut output);
     write_out(rt, &output[..said], b"why: standard output");
 }
 
