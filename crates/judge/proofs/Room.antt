@@ -1,12 +1,15 @@
--- There is room for all that the judge can say.
+-- There is room for all that the judge can say: in the code's VERDICT_SIZE bytes, and so in what `verdict` writes there.
 use Prim.Native.Nat.{ℕ, ◌≤◌}
 use native.Mathlib.Omega.{arith}
-use mathlib.Core.Path.{◌≡◌}
+use mathlib.Core.Path.{◌≡◌, refl}
 use mathlib.Core.Bool.{Bool}
 use mathlib.Core.List.{List}
-use lib.ListN.{length, length-append, length-take, length-replicate}
+use lib.ListN.{length, take, drop, length-append, length-take, length-replicate}
+use lib.Seq.{take_at}
 use Rattle.std.specs.Prelude.{Option, Some, None}
 use Rattle.text.specs.Decimal.{column}
+use Rattle.text.specs.Put.{behind, written}
+use Rattle.text.proofs.Chains.{behind_front, written_front}
 use Rattle.text.proofs.Decimals.{at_most_twenty}
 use Rattle.numbers.proofs.Tests.{by_test}
 use Rattle.judge.specs.NextLine.{line_of}
@@ -19,6 +22,7 @@ use Rattle.judge.specs.declared.Breach.{Breach}
 use Rattle.judge.specs.declared.End.{End}
 use Rattle.judge.specs.declared.End.TheVariants.{Over, Missing, LeftOver, Unreadable, Refused}
 use Rattle.judge.specs.declared.Judge.{Judge}
+use Rattle.judge.specs.declared.sentences.TheConstants.{VERDICT_SIZE}
 
 -- how long what is said can be
 abbrev Within : ℕ → List ℕ → Type 0
@@ -91,3 +95,15 @@ said_within j lines =
       breaking_within j.breaks,
       ending_within j.end (number_of j),
     ))
+
+-- the code's constant is that room
+pub verdict_room : VERDICT_SIZE ≡ verdict_size
+verdict_room = refl
+
+-- so all of it stands in bytes of that size
+pub all_said : (j : Judge) (lent : List ℕ) → Lines j.differs → length lent ≡ verdict_size
+    → take (behind 0 (said j) lent) (written 0 (said j) lent) ≡ said j
+all_said j lent lines room =
+    let fits : length (said j) ≤ length lent = omega (arith, room, said_within j lines) in
+    rw (behind_front (said j) lent fits, written_front (said j) lent fits)
+    (take_at (said j) (drop (length (said j)) lent) (length (said j)) refl)

@@ -1,5 +1,5 @@
--- What the program holds after a run over the fronts of its two buffers.
-use Rattle.std.specs.Prelude.{ℕ, ◌-◌, ◌≡◌, List, take, drop}
+-- What the program holds after a run over the fronts of its two buffers, and what a read leaves as it was.
+use Rattle.std.specs.Prelude.{ℕ, ◌-◌, ◌≤◌, ◌≡◌, ◌||◌, eqb, List, take, drop}
 use Rattle.judge.specs.Run.{run}
 use Rattle.judge.specs.declared.Ran.{Ran}
 use Rattle.program_judge.specs.declared.Stream.{Stream}
@@ -21,3 +21,12 @@ pub record Rest (input input_after lines lines_after : List ℕ) (old new : Held
   pub wants : new.wants ≡ (ran input lines old).wants
   pub records : Left (ran input lines old).taken input input_after old.records new.records
   pub printed : Left (ran input lines old).lines lines lines_after old.lines new.lines
+
+-- a read judges nothing
+abbrev pub Kept : Held → Held → Type 0
+Kept old new = new.judge ≡ old.judge
+
+-- of a stream that is read it keeps what was held, and one that brings nothing is its end
+pub record Grown (old new : Stream) : Type 0 where
+  pub held : old.held ≤ new.held
+  pub over : new.over ≡ (old.over || eqb new.held old.held)

@@ -3,8 +3,9 @@
 // judge has to say.
 #![tactic(auto)]
 
-ghost use Rattle.std.specs.Prelude.{◌≡◌, ◌+◌, ◌^◌, ◌≤◌, ◌<◌, length, IfSome};
-ghost use Rattle.program_judge.specs.Rest.{Left, Rest};
+ghost use Rattle.std.specs.Prelude.{◌≡◌, ◌+◌, ◌^◌, ◌≤◌, ◌<◌, length, take, IfSome};
+ghost use Rattle.judge.specs.Sentences.{said, verdict_size};
+ghost use Rattle.program_judge.specs.Rest.{Grown, Kept, Left, Rest};
 
 use judge::sentences::{VERDICT_SIZE, verdict};
 use judge::{Arrived, Judge, Wants, run};
@@ -49,7 +50,8 @@ impl Stream {
         name: &[u8],
     ) -> Option<Stream>
         requires { self.held ≤ length bytes.old }
-        ensures { IfSome result (λ next. next.held ≤ length bytes.old) }
+        ensures within { IfSome result (λ next. next.held ≤ length bytes.old) }
+        ensures grown { IfSome result (λ next. Grown self next) }
     {
         let brought = from
             .read(&mut bytes[self.held..])
@@ -61,7 +63,8 @@ impl Stream {
     // With so many bytes more behind those that are held.
     fn grown(self, brought: usize) -> Stream
         requires { self.held + brought < 2 ^ 64 }
-        ensures { result.held ≡ self.held + brought }
+        ensures held { result.held ≡ self.held + brought }
+        ensures grown { Grown self result }
     {
         Stream {
             held: self.held + brought,
@@ -77,6 +80,38 @@ struct Held {
     records: Stream,
     lines: Stream,
     wants: Wants,
+}
+
+impl Held {
+    // Reads records once behind those that are held; none where the read fails.
+    fn read_records(self, rt: &(impl Input + Eprint), input: &mut [u8]) -> Option<Held>
+        requires { self.records.held ≤ length input.old }
+        ensures within { IfSome result (λ next. next.records.held ≤ length input.old) }
+        ensures kept { IfSome result (λ next. Kept self next × (next.lines ≡ self.lines)) }
+        ensures grown { IfSome result (λ next. Grown self.records next.records) }
+    {
+        let brought = read_behind(rt, input, self.records.held, b"why: standard input")?;
+        Some(Held {
+            records: self.records.grown(brought),
+            ..self
+        })
+    }
+
+    // The same of the lines.
+    fn read_lines(self, rt: &impl Eprint, from: &mut impl Read, lines: &mut [u8]) -> Option<Held>
+        requires { self.lines.held ≤ length lines.old }
+        ensures within { IfSome result (λ next. next.lines.held ≤ length lines.old) }
+        ensures kept { IfSome result (λ next. Kept self next × (next.records ≡ self.records)) }
+        ensures grown { IfSome result (λ next. Grown self.lines next.lines) }
+    {
+        let read = self
+            .lines
+            .read_on(rt, from, lines, b"why: the board's lines")?;
+        Some(Held {
+            lines: read,
+            ..self
+        })
+    }
 }
 
 // Judges what is held, and moves what is left to the front of each buffer.
@@ -124,16 +159,8 @@ fn serve(
         held = judged(held, input, lines);
         match held.wants {
             Wants::Turn => {}
-            Wants::Records => {
-                let count = held.records.held;
-                let brought = read_behind(rt, input, count, b"why: standard input")?;
-                held.records = held.records.grown(brought);
-            }
-            Wants::Lines => {
-                held.lines = held
-                    .lines
-                    .read_on(rt, from, lines, b"why: the board's lines")?;
-            }
+            Wants::Records => held = held.read_records(rt, input)?,
+            Wants::Lines => held = held.read_lines(rt, from, lines)?,
             Wants::Nothing => return Some(held.judge),
         }
     }
@@ -160,9 +187,18 @@ fn lines_from<R: Env + Files + Eprint>(rt: &R) -> Option<R::File> {
     }
 }
 
+// Puts all that the judge has to say into bytes that have room for it.
+fn put_verdict(judge: Judge, output: &mut [u8]) -> usize
+    requires { length output.old ≡ verdict_size }
+    ensures within { result ≤ length output.old }
+    ensures all { take result output.new ≡ said judge }
+{
+    verdict(judge, output)
+}
+
 fn tell(rt: &(impl Print + Eprint), judge: Judge) {
     let mut output = [0; VERDICT_SIZE];
-    let said = verdict(judge, &mut output);
+    let said = put_verdict(judge, &mut output);
     write_out(rt, &output[..said], b"why: standard output");
 }
 
