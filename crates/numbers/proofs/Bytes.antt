@@ -74,18 +74,6 @@ number_capped at most bytes short =
     let same : min at most ≡ at = omega (arith, ltb-false most at (is_false (ltb most at) near)) in
     ap (λ (place : ℕ). number place bytes) same)
 
-number_drop : (at k : ℕ) (bytes : List ℕ) → number (k + at) bytes ≡ number at (drop k bytes)
-number_drop at k bytes = let next : k + at + 1 ≡ k + (at + 1) = omega arith in rw (next, get_or-drop, get_or-drop)
-
--- so the bytes may be cut where the first number stands, or at their end
-pub number_cut : (first at : ℕ) (bytes : List ℕ) → number at (drop (min first (length bytes)) bytes) ≡ number (first + at) bytes
-number_cut first at bytes =
-    let most : ℕ = length bytes in
-    let same : min (min first most + at) most ≡ min (first + at) most = omega arith in
-    sym (number_drop at (min first most) bytes) ∙ sym (number_capped (min first most + at) most bytes (omega arith))
-    ∙ ap (λ (place : ℕ). number place bytes) same
-    ∙ number_capped (first + at) most bytes (omega arith)
-
 -- bytes that come behind change nothing of those that are there
 module _ (a b : List ℕ) where
   pub byte_kept : (i : ℕ) → i < length a → byte i (a ++ b) ≡ byte i a

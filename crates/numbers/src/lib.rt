@@ -70,10 +70,9 @@ pub fn numbers_at<const N: usize>(bytes: &[u8], first: usize, count: usize, blan
     ensures { result ≡ numbers (min count N) first bytes.now ++ drop (min count N) (replicate N blank) }
 {
     // A `for` and no `array::from_fn`: of that the result stays open, since its promise follows the closure from step to step.
-    let given = &bytes[first.min(bytes.len())..];
     let mut numbers = [blank; N];
     for i in 0..count.min(N) {
-        numbers[i] = number_at(given, 2 * i);
+        numbers[i] = number_at(bytes, first.saturating_add(2 * i));
     }
     numbers
 }

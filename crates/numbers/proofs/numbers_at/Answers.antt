@@ -1,9 +1,9 @@
 -- A turn of `numbers_at` stores the next number of the definition; behind the last one the array is blank.
-use Rattle.std.proofs.Common.{◌≡◌, ◌∙◌, ◌-◌, ◌*◌, ◌<◌, min, ℕ, length, drop, replicate, arith}
-use lib.ListN.{length-drop, length-replicate}
+use Rattle.std.proofs.Common.{◌≡◌, ◌∙◌, ap, ◌+◌, ◌*◌, ◌<◌, ◌≤◌, min, ℕ, length, replicate, arith}
+use lib.ListN.{length-replicate}
 use lib.Seq.{take_all}
-use Rattle.numbers.specs.Bytes.{numbers}
-use Rattle.numbers.proofs.Bytes.{length-numbers, number_at, number_cut}
+use Rattle.numbers.specs.Bytes.{number, numbers}
+use Rattle.numbers.proofs.Bytes.{length-numbers, number_at, number_capped}
 use Rattle.numbers.proofs.Fill.{filled_more}
 use Rattle.numbers.proofs.numbers_at.Goals as goal
 
@@ -14,12 +14,12 @@ loop-i-preserved g c =
     let i = c.loop-i.i in
     let count : ℕ = min c.args.count g.row.N in
     let below : i < count = omega (arith, c.min-i-end.ensures) in
+    let short : length bytes ≤ 18446744073709551615 = omega arith in
     rw c.loop-i.invariant
     (filled_more (replicate g.row.N c.args.blank) (numbers count first bytes) i (simp length-replicate (omega arith))
     (simp length-numbers below)
-    (c.number_at.ensures
-    ∙ rw (take_all (length bytes - c.min.result) (drop c.min.result bytes) (omega (arith, length-drop c.min.result bytes)), c.min.ensures)
-    (number_cut first (2 * i) bytes ∙ number_at count first bytes i below)))
+    (c.number_at.ensures ∙ ap (λ (at : ℕ). number at bytes) c.saturating_add.ensures
+    ∙ number_capped (first + 2 * i) 18446744073709551615 bytes short ∙ number_at count first bytes i below))
 
 pub returns : goal.returns
 returns g c =
