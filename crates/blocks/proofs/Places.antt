@@ -4,20 +4,25 @@ use borrow.Author.Tests.{lt-ltb}
 use Rattle.std.proofs.Math.Bool.{or-true}
 use mathlib.Core.Bool.{true}
 use mathlib.Core.Logic.{⊎_elim}
-use mathlib.Core.Path.{◌≡◌, refl}
+use mathlib.Core.Path.{◌≡◌, ◌∙◌, ap, refl, sym}
 use mathlib.Core.List.{List, [], ◌∷◌, ◌++◌}
 use Prim.Native.Nat.{ℕ, zero, suc, ◌+◌, ◌*◌, ◌≤◌, ◌<◌}
 use native.Mathlib.Omega.{arith}
 use lib.Dec.{T, ltb, ltb→lt, nltb→le}
 use lib.ListN.{length, get_or-eq_default}
-use Rattle.std.specs.Prelude.{cond, map, Result, Ok, Err}
-use Rattle.images.specs.Writes.{Block}
+use Rattle.std.specs.Prelude.{cond, drop, Result, Ok, Err}
 use Rattle.streams.specs.declared.Missing.{Missing}
 use Rattle.streams.specs.declared.Missing.TheVariants.{Unknown}
-use Rattle.numbers.specs.Bytes.{byte}
-use Rattle.numbers.proofs.Bytes.{byte_kept, numbers_kept}
+use Rattle.numbers.specs.Bytes.{byte, numbers}
+use Rattle.numbers.proofs.Bytes.{byte_kept, numbers_kept, numbers_drop}
 use Rattle.numbers.proofs.Tests.{decide, or_cases, or_left, or_right}
-use Rattle.blocks.specs.Table.{Given, handed, head_size, following, block_size, sizes_of, place_of, bad_kind, block_at, blocks_of}
+use Rattle.blocks.specs.Table.{Given, head_size, following, block_size, sizes_of, place_of, bad_kind, block_at, blocks_of}
+
+-- numbers from a place on are the first of what is left from there
+pub numbers_left : (count place : ℕ) (bytes : List ℕ) → numbers count 0 (drop place bytes) ≡ numbers count place bytes
+numbers_left count place bytes =
+    let same : place + 0 ≡ place = omega arith in
+    sym (numbers_drop count 0 place bytes) ∙ ap (λ (at : ℕ). numbers count at bytes) same
 
 pub at_least : (bytes : List ℕ) (k : ℕ) → 4 + 2 * k ≤ place_of bytes k
 unfolding place_of

@@ -1,5 +1,5 @@
 // The blocks that W hands to the writer, read off its bytes.
-ghost use Rattle.std.specs.Prelude.{◌≡◌, ◌≤◌, cond, map, Ok, Err};
+ghost use Rattle.std.specs.Prelude.{◌≡◌, ◌≤◌, cond, map, drop, Ok, Err};
 ghost use Rattle.streams.specs.declared.Missing.TheVariants.{Unknown};
 ghost use Rattle.blocks.specs.Table.{block_size, place_of, bad_kind, block_at, handed, blocks_of};
 
@@ -18,13 +18,21 @@ fn block_size(count: u8) -> usize
     2 + 2 * (count as usize).min(MOST_NUMBERS)
 }
 
-#[tactic(auto, unfolding(crate::specs::Table::block_at))]
+// What is left from a place on.
+fn left(bytes: &[u8], place: usize) -> &[u8]
+    ensures { result.now ≡ drop place bytes.now }
+{
+    &bytes[place.min(bytes.len())..]
+}
+
+// The numbers are read off what is left, so that each asks once where it stands.
+#[tactic(auto, using(crate::proofs::Places::numbers_left), unfolding(crate::specs::Table::block_at))]
 fn block_at(bytes: &[u8], place: usize) -> Block
     requires { place ≤ 65533 }
     ensures { result ≡ handed (block_at bytes.now place) }
 {
     let count = byte_at(bytes, place + 1);
-    let numbers = numbers_at(bytes, place + 2, count as usize, 0);
+    let numbers = numbers_at(left(bytes, place + 2), 0, count as usize, 0);
     (byte_at(bytes, place) == FILLED).then_some(Filled { count, numbers })
 }
 
