@@ -25,7 +25,7 @@ fn left(bytes: &[u8], place: usize) -> &[u8]
     &bytes[place.min(bytes.len())..]
 }
 
-// The numbers are read off what is left, so that each asks once where it stands.
+// The numbers are read off what is left, so that none of them adds its place to that of the block.
 #[tactic(auto, using(crate::proofs::Places::numbers_left), unfolding(crate::specs::Table::block_at))]
 fn block_at(bytes: &[u8], place: usize) -> Block
     requires { place ≤ 65533 }
@@ -36,7 +36,7 @@ fn block_at(bytes: &[u8], place: usize) -> Block
     (byte_at(bytes, place) == FILLED).then_some(Filled { count, numbers })
 }
 
-// Where they end, unless the kind of one is bad: a part of a record is only walked over.
+// Where the fifteen blocks end, unless the kind of one is bad: a part of a record is only walked over.
 #[tactic(auto, unfolding(crate::specs::Table::place_of, crate::specs::Table::bad_kind))]
 pub(crate) fn end_of(bytes: &[u8]) -> Result<usize, Missing>
     ensures { result ≡ cond (bad_kind bytes.now 15) (Err Unknown) (Ok (place_of bytes.now 15)) }
@@ -51,7 +51,7 @@ pub(crate) fn end_of(bytes: &[u8]) -> Result<usize, Missing>
     Ok(place)
 }
 
-// All of them.
+// The fifteen blocks.
 #[tactic(auto, unfolding(crate::specs::Table::place_of, crate::specs::Table::blocks_of))]
 pub(crate) fn blocks_of(bytes: &[u8]) -> [Block; BLOCKS]
     ensures { result ≡ map handed (blocks_of bytes.now 15) }

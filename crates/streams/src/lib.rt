@@ -55,7 +55,7 @@ pub trait Records {
 }
 
 // Records with the run over them that a program calls: each crate of records gives its own `run`. A trait beside `Records`, since that
-// run is the one below, at the records: as a method of `Records` it would be called by what it calls.
+// run is the one below, at the records: as a method of `Records` it would wait for the proof of the `impl` that it stands in.
 pub trait Runnable: Records {
     fn run(state: Self::State, input: &[u8], closed: bool, output: &mut [u8]) -> Ran<Self::State>
         ensures result { result ≡ ran_of (run Self.program closed (length output.old) input.now state) }
