@@ -12,7 +12,7 @@ from typing import Callable, Dict, List, NamedTuple
 from . import model
 from .arguments import parser_of
 from .expected import Files, benchline, blockline, generated, hall_pairs, judge_example
-from .expected import report_lines, shiftline_example, splits, why_story
+from .expected import report_lines, served, shiftline_example, splits, why_story
 from .places import ROOT, program_folder
 
 
@@ -31,6 +31,7 @@ STORED: Dict[str, Stored] = {
     "blockline": Stored(blockline.files, by_the_model=True),
     "judge": Stored(judge_example.files, by_the_model=False),
     "splits": Stored(splits.files, by_the_model=True),
+    "served": Stored(served.files, by_the_model=True),
     "hall_pairs": Stored(hall_pairs.files, by_the_model=False),
     "report_lines": Stored(report_lines.files, by_the_model=False),
     "generated": Stored(generated.files, by_the_model=True),

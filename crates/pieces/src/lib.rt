@@ -8,7 +8,7 @@ ghost use Rattle.std.specs.Prelude.{true, ◌≡◌, ◌++◌, length, drop};
 ghost use Rattle.pieces.specs.Between.{between};
 ghost use Rattle.pieces.specs.Reads.{Reads};
 
-pub use serving::{Names, serve};
+pub use serving::{Names, serve, serve_runnable};
 use std::fmt::InlineText;
 use std::io::{Error, ErrorKind, Input, Read};
 use std::str::from_utf8;

@@ -4,7 +4,8 @@ ghost use Rattle.pieces.specs.Turn.{Rest, ReadOn, Served};
 
 use crate::{move_to_front, read_behind, write_out};
 use std::io::Input;
-use streams::Runnable;
+use std::marker::PhantomData;
+use streams::{Ran, Records, Runnable, run};
 
 // What the two streams are called where a failure is told.
 #[derive(Clone, Copy)]
@@ -76,9 +77,10 @@ fn read_on<P: Runnable>(
     )
 }
 
-// Answers the records of standard input on standard output, from this state on, until a refusal or the end of the input, and tells what
-// it holds then. A proved loop has to end, and nothing says that the input does: the reads are counted to a number that no run uses up.
-pub fn serve<P: Runnable>(
+// Answers the records of standard input on standard output, by their own run, from this state on, until a refusal or the end of the
+// input, and tells what it holds then. A proved loop has to end, and nothing says that the input does: the reads are counted to a
+// number that no run uses up.
+pub fn serve_runnable<P: Runnable>(
     rt: &(impl Input + Print + Eprint),
     state: P::State,
     input: &mut [u8],
@@ -101,4 +103,40 @@ pub fn serve<P: Runnable>(
         held = read_on::<P>(rt, held, input, output, names);
     }
     held
+}
+
+// The records of P with the run that `streams` has for any.
+struct Plain<P>(PhantomData<P>);
+
+impl<P: Records> Records for Plain<P> {
+    type State = P::State;
+
+    ghost Record = { P.Record };
+
+    ghost program = { P.program };
+
+    fn step(state: P::State, input: &[u8], closed: bool, output: &mut [u8]) -> Ran<P::State> {
+        P::step(state, input, closed, output)
+    }
+}
+
+impl<P: Records> Runnable for Plain<P> {
+    fn run(state: P::State, input: &[u8], closed: bool, output: &mut [u8]) -> Ran<P::State> {
+        run::<P>(state, input, closed, output)
+    }
+}
+
+// The same of records whose crate gives no run of its own, or whose own is not asked for.
+pub fn serve<P: Records>(
+    rt: &(impl Input + Print + Eprint),
+    state: P::State,
+    input: &mut [u8],
+    output: &mut [u8],
+    names: Names,
+) -> Held<P::State>
+    ensures { (reads : ℕ)
+        × Served P.program (length output.old) input.old (record { state = state; count = 0; going = true }) reads input.new result
+        × (result.going ≡ true → reads ≡ 2 ^ 64 - 1) }
+{
+    serve_runnable::<Plain<P>>(rt, state, input, output, names)
 }

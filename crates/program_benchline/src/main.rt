@@ -7,7 +7,7 @@ ghost use Rattle.bench.specs.Benchline.{input_size, output_size};
 
 use bench::{Benchline, INPUT_SIZE, OUTPUT_SIZE};
 use drive::Drive;
-use pieces::{Names, serve};
+use pieces::{Names, serve_runnable};
 
 // The buffers are those of which the stream's theorems speak.
 fn answer(rt: &HostRuntime, input: &mut [u8], output: &mut [u8])
@@ -17,7 +17,7 @@ fn answer(rt: &HostRuntime, input: &mut [u8], output: &mut [u8])
         input: b"benchline: standard input",
         output: b"benchline: standard output",
     };
-    serve::<Benchline>(rt, Drive::power_up(), input, output, names);
+    serve_runnable::<Benchline>(rt, Drive::power_up(), input, output, names);
 }
 
 fn main(rt: HostRuntime) {

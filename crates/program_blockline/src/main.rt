@@ -6,7 +6,7 @@ ghost use Rattle.std.specs.Prelude.{◌≡◌, length};
 ghost use Rattle.blocks.specs.Blockline.{input_size, output_size};
 
 use blocks::{Blockline, INPUT_SIZE, OUTPUT_SIZE};
-use pieces::{Names, serve};
+use pieces::{Names, serve_runnable};
 
 // The buffers are those of which the stream's theorems speak.
 fn answer(rt: &HostRuntime, input: &mut [u8], output: &mut [u8])
@@ -16,7 +16,7 @@ fn answer(rt: &HostRuntime, input: &mut [u8], output: &mut [u8])
         input: b"blockline: standard input",
         output: b"blockline: standard output",
     };
-    serve::<Blockline>(rt, (), input, output, names);
+    serve_runnable::<Blockline>(rt, (), input, output, names);
 }
 
 fn main(rt: HostRuntime) {

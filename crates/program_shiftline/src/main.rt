@@ -6,7 +6,7 @@ ghost use Rattle.std.specs.Prelude.{◌≡◌, length};
 ghost use Rattle.records.specs.Run.{input_size, output_size};
 
 use drive::Drive;
-use pieces::{Names, serve};
+use pieces::{Names, serve_runnable};
 use records::{INPUT_SIZE, OUTPUT_SIZE, Shiftline};
 
 // The buffers are those of which the stream's theorems speak.
@@ -17,7 +17,7 @@ fn answer(rt: &HostRuntime, input: &mut [u8], output: &mut [u8])
         input: b"shiftline: standard input",
         output: b"shiftline: standard output",
     };
-    serve::<Shiftline>(rt, Drive::power_up(), input, output, names);
+    serve_runnable::<Shiftline>(rt, Drive::power_up(), input, output, names);
 }
 
 fn main(rt: HostRuntime) {

@@ -1,7 +1,7 @@
 -- Before the first read nothing is held; each read is one more.
 use Rattle.std.proofs.Common.{arith, rules}
 use Rattle.pieces.specs.Turn.{none, more}
-use Rattle.pieces.proofs.serving.serve.Goals as goal
+use Rattle.pieces.proofs.serving.serve_runnable.Goals as goal
 
 pub loop-reads-init : goal.loop-reads-init
 loop-reads-init g c = (omega arith, none)
