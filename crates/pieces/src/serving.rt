@@ -126,7 +126,7 @@ impl<P: Records> Runnable for Plain<P> {
     }
 }
 
-// The same of records whose crate gives no run of its own, or whose own is not asked for.
+// What `serve_runnable` does, of records whose crate gives no run of its own, or whose own is not asked for.
 pub fn serve<P: Records>(
     rt: &(impl Input + Print + Eprint),
     state: P::State,

@@ -20,11 +20,5 @@ fn main(rt: HostRuntime) {
         input: b"test_served: standard input",
         output: b"test_served: standard output",
     };
-    serve::<Shiftline>(
-        &rt,
-        Drive::power_up(),
-        &mut input,
-        &mut output,
-        names,
-    );
+    serve::<Shiftline>(&rt, Drive::power_up(), &mut input, &mut output, names);
 }
