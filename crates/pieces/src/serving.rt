@@ -105,7 +105,7 @@ pub fn serve_runnable<P: Runnable>(
     held
 }
 
-// The records of P with the run that `streams` has for any.
+// The records of P with the run that `streams` has for any, so that one loop, with one invariant, serves these too.
 struct Plain<P>(PhantomData<P>);
 
 impl<P: Records> Records for Plain<P> {
@@ -126,7 +126,7 @@ impl<P: Records> Runnable for Plain<P> {
     }
 }
 
-// What `serve_runnable` does, of records whose crate gives no run of its own, or whose own is not asked for.
+// What `serve_runnable` does, and word for word its promise, of records whose crate gives no run of its own, or whose own is not asked for.
 pub fn serve<P: Records>(
     rt: &(impl Input + Print + Eprint),
     state: P::State,
